@@ -1,0 +1,12 @@
+-- The worked cases are as document 01 states them.
+use mathlib.Core.Path.{refl}
+use Rattle.laws.specs.Lists.{build, join, laid}
+use Rattle.laws.specs.Sums.{sum}
+use Rattle.arith.specs.Limits.{shapeBad}
+use Rattle.arith.specs.Packing.{factorOf, slotBits, wordsOf, wordOf, packRow, packed, elementOf, compressNumber}
+use Rattle.arith.specs.Product.{entryOf, product, operandsBad, productNumber}
+use Rattle.arith.specs.Worked.{AsStated}
+
+pub as-stated : AsStated
+unfolding sum build join laid shapeBad factorOf slotBits wordsOf wordOf packRow packed elementOf compressNumber entryOf product operandsBad productNumber
+as-stated = refl

@@ -1,0 +1,2 @@
+-- Laws of the limits.
+pub mod Shapes

@@ -1,0 +1,83 @@
+-- The refusals in 01's order, and then the rows.
+use mathlib.Core.Path.{_≡_, sym, ap, ap₂, _∙_}
+use mathlib.Core.Bool.{Bool}
+use mathlib.Core.List.{[], _∷_}
+use Prim.Native.Nat.{ℕ, _*_}
+use native.Mathlib.Omega.{arith}
+use lib.ListN.{length}
+use borrow.Author.Needs.{needs}
+use Rattle.laws.specs.Refusals.{_⇒_, first}
+use Rattle.laws.proofs.Refusals.{kept, written}
+use Rattle.arith.specs.Limits.{shapeBad}
+use Rattle.arith.specs.Packing.{packedNumber, compressNumber}
+use Rattle.arith.proofs.limits.Shapes.{shaped}
+use Rattle.arith.proofs.packing.Answers.{refusing, accepted}
+use Rattle.arith.proofs.packing.Sizes.{words-le}
+use Rattle.arith.proofs.packing.row_wise_compress.Statement.{statement}
+use Rattle.arith.proofs.packing.row_wise_compress.Tie as tie
+
+-- the answer's number is the definition's
+number : (c : tie.After-refusal)
+    → let a = c .before .before .before .before .before .before .args in packedNumber (c .refusal .result) ≡ compressNumber (a .b) (a .rows) (a .k) (length (a .words .now)) (length (a .out .now))
+unfolding compressNumber
+number c =
+    let a = c .before .before .before .before .before .before .args in
+    c .refusal .ensures
+    ∙ ap₂ (λ (w s : Bool). first (w ⇒ 1 ∷ s ⇒ 2 ∷ [])) (c .before .width-bad .ensures)
+    (c .before .before .shape-bad .ensures ∙ ap (λ (n : ℕ). shapeBad (a .rows) (a .k) (a .k) n (length (a .words .now)) (length (a .out .now))) (c .before .before .before .words-of .ensures))
+
+none : (c : tie.After-enum-told)
+    → let a = c .before .before .before .before .before .before .before .before .args in compressNumber (a .b) (a .rows) (a .k) (length (a .words .now)) (length (a .out .now)) ≡ 0
+none c = sym (number (c .before .before)) ∙ ap packedNumber (c .enum-told .given .1)
+
+words-of-requires : tie.Need-words-of-requires
+words-of-requires c κs = search needs
+
+shape-bad-requires : tie.Need-shape-bad-requires
+shape-bad-requires c κs =
+    let a = c .before .before .before .args in
+    (omega arith, omega (arith, words-le (a .b) (a .k), c .words-of .ensures))
+
+width-bad-requires : tie.Need-width-bad-requires
+width-bad-requires c κs = search needs
+
+refusal-requires : tie.Need-refusal-requires
+refusal-requires c κs = search needs
+
+enum-told : tie.Need-enum-told
+enum-told c = search needs
+
+returns : tie.Need-returns
+returns c =
+    let e = number (c .before) in
+    (e, kept _ _ _ (rw e at (refusing (c .before .refusal .result) (c .match .keys2))))
+
+pack-rows-requires : tie.Need-pack-rows-requires
+unfolding compressNumber
+pack-rows-requires c κs =
+    let a = c .before .before .before .before .before .before .before .before .before .args in
+    let t = accepted (a .b) _ (none (c .before)) in
+    let p = shaped _ _ _ _ _ _ (t .2) in
+    ((t .0, t .1, p .k-most), (p .whole, p .roomy))
+
+same-length : tie.Need-same-length
+same-length c = search needs
+
+returns-2 : tie.Need-returns-2
+returns-2 c =
+    let z = none (c .before .before .before .before) in
+    (sym z, c .before .before .pack-rows .ensures ∙ written _ _ _ z)
+
+pub row-wise-compress-spec : {M : Type 1} → statement M
+row-wise-compress-spec =
+    tie.close
+    (tie.spec
+    words-of-requires
+    shape-bad-requires
+    width-bad-requires
+    refusal-requires
+    enum-told
+    returns
+    pack-rows-requires
+    same-length
+    returns-2)

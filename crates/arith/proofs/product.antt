@@ -1,0 +1,2 @@
+-- Laws of the packed product.
+pub mod Plain

@@ -1,0 +1,90 @@
+-- The refusals in 01's order, and then the sums.
+use mathlib.Core.Path.{_≡_, sym, ap, ap₂, _∙_}
+use mathlib.Core.Bool.{Bool}
+use mathlib.Core.List.{[], _∷_}
+use Prim.Native.Nat.{ℕ, _*_}
+use native.Mathlib.Omega.{arith}
+use lib.ListN.{length}
+use borrow.Author.Needs.{needs}
+use Rattle.laws.specs.Refusals.{_⇒_, first}
+use Rattle.laws.proofs.Refusals.{kept, written}
+use borrow.Author.Tests.{eqb-true, not-false}
+use lib.Dec.{eqb}
+use mathlib.Core.Bool.{not}
+use Rattle.laws.proofs.Refusals.{neither}
+use Rattle.arith.specs.Limits.{shapeBad}
+use Rattle.arith.specs.Packing.{wordsOf, packedNumber}
+use Rattle.arith.specs.Product.{operandsBad, productNumber}
+use Rattle.arith.proofs.limits.Shapes.{shaped}
+use Rattle.arith.proofs.packing.Answers.{refusing, accepted}
+use Rattle.arith.proofs.packing.Sizes.{words-le}
+use Rattle.arith.proofs.product.row_vector_x_compressed_transposed_matrix.Statement.{statement}
+use Rattle.arith.proofs.product.row_vector_x_compressed_transposed_matrix.Tie as tie
+
+-- the answer's number is the definition's
+number : (c : tie.After-refusal)
+    → let a = c .before .before .before .before .before .before .before .args in packedNumber (c .refusal .result) ≡ productNumber (a .b) (a .rows) (a .k) (length (a .vector .now)) (length (a .words .now)) (length (a .out .now))
+unfolding productNumber
+number c =
+    let a = c .before .before .before .before .before .before .before .args in
+    c .refusal .ensures
+    ∙ ap₂ (λ (w s : Bool). first (w ⇒ 1 ∷ s ⇒ 2 ∷ [])) (c .before .width-bad .ensures)
+    (c .before .before .operands-bad .ensures ∙ ap (λ (n : ℕ). operandsBad (a .rows) (a .k) n (length (a .vector .now)) (length (a .words .now)) (length (a .out .now))) (c .before .before .before .words-of .ensures))
+
+none : (c : tie.After-enum-told)
+    → let a = c .before .before .before .before .before .before .before .before .before .args in productNumber (a .b) (a .rows) (a .k) (length (a .vector .now)) (length (a .words .now)) (length (a .out .now)) ≡ 0
+none c = sym (number (c .before .before)) ∙ ap packedNumber (c .enum-told .given .1)
+
+words-of-requires : tie.Need-words-of-requires
+words-of-requires c κs = search needs
+
+operands-bad-requires : tie.Need-operands-bad-requires
+operands-bad-requires c κs =
+    let a = c .before .before .before .before .args in
+    omega (arith, words-le (a .b) (a .k), c .words-of .ensures)
+
+width-bad-requires : tie.Need-width-bad-requires
+width-bad-requires c κs = search needs
+
+refusal-requires : tie.Need-refusal-requires
+refusal-requires c κs = search needs
+
+enum-told : tie.Need-enum-told
+enum-told c = search needs
+
+returns : tie.Need-returns
+returns c =
+    let e = number (c .before) in
+    (e, kept _ _ _ (rw e at (refusing (c .before .refusal .result) (c .match .keys2))))
+
+row-sums-requires : tie.Need-row-sums-requires
+unfolding productNumber operandsBad
+row-sums-requires c κs =
+    let a = c .before .before .before .before .before .before .before .before .before .before .args in
+    let t = accepted (a .b) _ (none (c .before)) in
+    let q = neither (not (eqb (length (a .vector .now)) (a .k))) _ (t .2) in
+    let k : length (a .vector .now) ≡ a .k = eqb-true _ _ (not-false _ (q .0)) in
+    let p = shaped _ _ _ _ _ _ (q .1) in
+    ((t .0, t .1, rw k (p .k-most)), (p .whole ∙ ap (λ (n : ℕ). a .rows * wordsOf (a .b) n) (sym k), omega (arith, p .roomy)))
+
+same-length : tie.Need-same-length
+same-length c = search needs
+
+returns-2 : tie.Need-returns-2
+returns-2 c =
+    let z = none (c .before .before .before .before) in
+    (sym z, c .before .before .row-sums .ensures ∙ written _ _ _ z)
+
+pub row-vector-x-compressed-transposed-matrix-spec : {M : Type 1} → statement M
+row-vector-x-compressed-transposed-matrix-spec =
+    tie.close
+    (tie.spec
+    words-of-requires
+    operands-bad-requires
+    width-bad-requires
+    refusal-requires
+    enum-told
+    returns
+    row-sums-requires
+    same-length
+    returns-2)

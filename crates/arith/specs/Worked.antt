@@ -1,0 +1,30 @@
+-- Document 01, "Numbers to hold against it": the worked cases, one table and one statement, proved by computing.
+use mathlib.Core.Path.{_≡_}
+use Prim.Native.Nat.{ℕ}
+use mathlib.Core.List.{List, [], _∷_, map}
+use Rattle.arith.specs.Packing.{compressAfter}
+use Rattle.arith.specs.Product.{productAfter}
+
+-- 01's number of a case, what the contracts' definitions give for it, and what 01 says
+pub record Case : Type 0 where
+  pub number : ℕ
+  pub found : List ℕ
+  pub stated : List ℕ
+
+abbrev case : ℕ → List ℕ → List ℕ → Case
+case n xs ys = record { number = n; found = xs; stated = ys }
+
+-- Each output is lent with 7 in every word, which nothing of it may keep.
+abbrev pub worked : List Case
+worked =
+    case 1 (compressAfter 10 1 4 (1 ∷ 2 ∷ 3 ∷ 4 ∷ []) (7 ∷ 7 ∷ [])) (3147777 ∷ 4 ∷ [])
+    ∷ case 2 (compressAfter 8 1 3 (255 ∷ 256 ∷ 1 ∷ []) (7 ∷ [])) (65791 ∷ [])
+    ∷ case 3 (compressAfter 11 1 2 (2047 ∷ 1 ∷ []) (7 ∷ [])) (67583 ∷ [])
+    ∷ case 4 (compressAfter 4 1 5 (15 ∷ 1 ∷ 2 ∷ 3 ∷ 4 ∷ []) (7 ∷ 7 ∷ [])) (50462991 ∷ 4 ∷ [])
+    ∷ case 5 (compressAfter 9 1 3 (511 ∷ 1 ∷ 0 ∷ []) (7 ∷ [])) (1535 ∷ [])
+    ∷ case 6 (productAfter 10 1 4 (2 ∷ 3 ∷ 4294967295 ∷ 1 ∷ []) (3147777 ∷ 4 ∷ []) (7 ∷ [])) (9 ∷ [])
+    ∷ []
+
+-- every case is as 01 states it
+abbrev pub AsStated : Type 0
+AsStated = map (λ (c : Case). c .found) worked ≡ map (λ (c : Case). c .stated) worked

@@ -1,0 +1,5 @@
+-- Laws about the definitions of specs/. Each stands once, over any element, width or length that it holds for.
+pub mod Refusals
+pub mod Lists
+pub mod Filling
+pub mod Sums

@@ -1,0 +1,4 @@
+-- Definitions that the contracts of every crate cite. Laws about them stand in proofs/.
+pub mod Refusals
+pub mod Lists
+pub mod Sums

@@ -1,0 +1,1 @@
+// No code: the definitions (specs/) and laws (proofs/) that every crate above cites.
