@@ -5,8 +5,8 @@ use Rattle.laws.specs.Sums.{sum}
 use Rattle.arith.specs.Limits.{shapeBad}
 use Rattle.arith.specs.Packing.{factorOf, slotBits, wordsOf, wordOf, packRow, packed, elementOf, compressNumber}
 use Rattle.arith.specs.Product.{entryOf, product, operandsBad, productNumber}
-use Rattle.arith.specs.Worked.{AsStated}
+use Rattle.arith.specs.Worked.{worked, AsStated}
 
-pub as-stated : AsStated
+pub as-stated : AsStated worked
 unfolding sum build join laid shapeBad factorOf slotBits wordsOf wordOf packRow packed elementOf compressNumber entryOf product operandsBad productNumber
-as-stated = refl
+as-stated = (refl, (refl, (refl, (refl, (refl, (refl, tt))))))

@@ -1,7 +1,7 @@
 -- Document 01, "Numbers to hold against it": the worked cases, one table and one statement, proved by computing.
 use mathlib.Core.Path.{_≡_}
 use Prim.Native.Nat.{ℕ}
-use mathlib.Core.List.{List, [], _∷_, map}
+use mathlib.Core.List.{List, [], _∷_}
 use Rattle.arith.specs.Packing.{compressAfter}
 use Rattle.arith.specs.Product.{productAfter}
 
@@ -25,6 +25,7 @@ worked =
     ∷ case 6 (productAfter 10 1 4 (2 ∷ 3 ∷ 4294967295 ∷ 1 ∷ []) (3147777 ∷ 4 ∷ []) (7 ∷ [])) (9 ∷ [])
     ∷ []
 
--- every case is as 01 states it
-abbrev pub AsStated : Type 0
-AsStated = map (λ (c : Case). c .found) worked ≡ map (λ (c : Case). c .stated) worked
+-- every case of a table is as 01 states it
+abbrev pub AsStated : List Case → Type 0
+AsStated [] = Unit
+AsStated (c ∷ cs) = (c .found ≡ c .stated) × AsStated cs
