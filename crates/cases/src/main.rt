@@ -1,0 +1,15 @@
+// Document 01's cases, run on the proved library. Each row shows what was lent, the number that was answered (0 is
+// success) and the output at exit. Outputs are lent with 7 in every word, so that what stays as it was is seen.
+mod packing;
+mod print;
+mod product;
+
+fn main() {
+    packing::worked();
+    packing::sizes();
+    packing::unpacked();
+    packing::pack_refused();
+    packing::unpack_refused();
+    product::worked();
+    product::refused();
+}
