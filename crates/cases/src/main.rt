@@ -6,10 +6,9 @@ mod product;
 
 fn main() {
     packing::worked();
-    packing::sizes();
-    packing::unpacked();
-    packing::pack_refused();
-    packing::unpack_refused();
+    packing::more();
+    packing::pack_limits();
+    packing::unpack_limits();
     product::worked();
-    product::refused();
+    product::limits();
 }
