@@ -6,7 +6,8 @@ ghost use mathlib.Core.List.{[], _∷_};
 ghost use lib.ListN.{length};
 ghost use Rattle.laws.specs.Refusals.{first, _⇒_};
 ghost use Rattle.laws.specs.Lists.{laid};
-ghost use Rattle.arith.specs.Packing.{factorOf, slotBits, wordsOf, Slotted, wordOf, slots, packRow, packed, unpackRow, unpacked, packedNumber, compressNumber, compressAfter, decompressNumber, decompressAfter};
+ghost use Rattle.arith.specs.Packing.{factorOf, slotBits, wordsOf, wordOf, packRow, packed, unpackRow, unpacked, Slotted, slots};
+ghost use Rattle.arith.specs.Packing.{packedNumber, compressNumber, compressAfter, decompressNumber, decompressAfter};
 
 // What packing, unpacking and the packed product answer: 0, 1 or 2 of document 01.
 pub enum Packed {

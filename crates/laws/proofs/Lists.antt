@@ -7,7 +7,7 @@ use native.Mathlib.Numerals.{add-one}
 use native.Mathlib.Omega.{arith}
 use native.Mathlib.Decide.{decLe, decLt}
 use lib.ListN.{length, getD, take, drop, length-append, length-take, length-drop, List·getD-append}
-use lib.Seq.{getD-at, getD-take, getD-drop, take-append-le, drop-append-le, take-at, drop-at, take-all}
+use lib.Seq.{getD-at, getD-take, getD-drop, take-append-le, drop-append-le, drop-at, take-all}
 use Rattle.laws.specs.Lists.{build, join, part, row}
 
 -- the last of n blocks of k ends inside them

@@ -1,5 +1,5 @@
 -- A row, word by word: what one turn of a loop over its words does. f slots of w bits to a word.
-use mathlib.Core.Path.{_≡_, refl, sym, ap, ap₂, _∙_}
+use mathlib.Core.Path.{_≡_, sym, ap, ap₂, _∙_}
 use mathlib.Core.List.{List, _++_}
 use Prim.Native.Nat.{ℕ, _+_, _*_, _-_, _%_, _<_, _≤_, min}
 use native.Mathlib.Nat.{min-eq-right, zero-mul}

@@ -1,8 +1,8 @@
 -- Factor, slot width, and the words of a row.
-use mathlib.Core.Path.{_≡_, refl, sym, ap, _∙_}
+use mathlib.Core.Path.{_≡_, refl, ap, _∙_}
 use mathlib.Core.Bool.{Bool, true, false, cond}
-use Prim.Native.Nat.{ℕ, suc, _+_, _*_, _-_, _/_, _%_, _<_, _≤_, min}
-use native.Mathlib.Nat.{div-mul-le-self, div-lt-iff-lt-mul, lt-div-mul-add, mod-lt, le-trans, mul-le-mul-left, mul-le-mul-right, mul-one, add-mul-div-right, div-eq-of-lt, div-add-mod', zero-add, add-comm}
+use Prim.Native.Nat.{ℕ, suc, _+_, _*_, _-_, _/_, _%_, _<_, _≤_}
+use native.Mathlib.Nat.{div-mul-le-self, div-lt-iff-lt-mul, lt-div-mul-add, mod-lt, le-trans, mul-le-mul-left, mul-le-mul-right, add-mul-div-right, div-eq-of-lt, div-add-mod'}
 use native.Mathlib.Omega.{arith}
 use mathlib.Core.List.{List}
 use lib.ListN.{length}
@@ -12,42 +12,34 @@ use Rattle.laws.specs.Lists.{part}
 use Rattle.laws.proofs.Lists.{room, length-build}
 use Rattle.arith.specs.Packing.{factorOf, slotBits, wordsOf, Slotted, wordOf, packRow, elementOf, unpackRow}
 
--- The three kinds of word, each fact over the two tests that tell them apart.
-factor-lo-by : (s t : Bool) → 2 ≤ cond s 4 (cond t 3 2)
-factor-lo-by true t = omega arith
-factor-lo-by false true = omega arith
-factor-lo-by false false = omega arith
-
-factor-hi-by : (s t : Bool) → cond s 4 (cond t 3 2) ≤ 4
-factor-hi-by true t = omega arith
-factor-hi-by false true = omega arith
-factor-hi-by false false = omega arith
-
-fit-by : (s t : Bool) → cond s 4 (cond t 3 2) * cond s 8 (cond t 10 16) ≤ 32
-fit-by true t = omega arith
-fit-by false true = omega arith
-fit-by false false = omega arith
-
-wide-by : (b : ℕ) (s t : Bool) → leb b 8 ≡ s → leb b 10 ≡ t → b ≤ 14 → b ≤ cond s 8 (cond t 10 16)
-wide-by b true t p q h = leb-true b 8 p
-wide-by b false true p q h = leb-true b 10 q
-wide-by b false false p q h = omega arith
+-- The three kinds of word, over the two tests that tell them apart.
+kinds : (s t : Bool)
+    → let f : ℕ = cond s 4 (cond t 3 2) in (2 ≤ f) × (f ≤ 4) × (f * cond s 8 (cond t 10 16) ≤ 32)
+kinds true t = (omega arith, omega arith, omega arith)
+kinds false true = (omega arith, omega arith, omega arith)
+kinds false false = (omega arith, omega arith, omega arith)
 
 pub factor-lo : (b : ℕ) → 2 ≤ factorOf b
 unfolding factorOf
-factor-lo b = factor-lo-by (leb b 8) (leb b 10)
+factor-lo b = kinds (leb b 8) (leb b 10) .0
 
 pub factor-hi : (b : ℕ) → factorOf b ≤ 4
 unfolding factorOf
-factor-hi b = factor-hi-by (leb b 8) (leb b 10)
+factor-hi b = kinds (leb b 8) (leb b 10) .1
 
 fit : (b : ℕ) → factorOf b * slotBits b ≤ 32
 unfolding factorOf slotBits
-fit b = fit-by (leb b 8) (leb b 10)
+fit b = kinds (leb b 8) (leb b 10) .2
 
+-- a slot holds an element
 pub wide : (b : ℕ) → b ≤ 14 → b ≤ slotBits b
 unfolding slotBits
-wide b h = wide-by b (leb b 8) (leb b 10) refl refl h
+wide b h = by (leb b 8) (leb b 10) refl refl
+  where
+    by : (s t : Bool) → leb b 8 ≡ s → leb b 10 ≡ t → b ≤ cond s 8 (cond t 10 16)
+    by true t p q = leb-true b 8 p
+    by false true p q = leb-true b 10 q
+    by false false p q = omega arith
 
 -- as many slots as a word has lie inside it
 pub slotted : (b n : ℕ) → 4 ≤ b → b ≤ 14 → n ≤ factorOf b → Slotted b (slotBits b) n

@@ -1,5 +1,5 @@
 -- One slot of a word, over any slot width: masks and shifts are the arithmetic of specs/.
-use mathlib.Core.Path.{_≡_, refl, sym, ap, ap₂, _∙_}
+use mathlib.Core.Path.{_≡_, sym, ap, _∙_}
 use Prim.Native.Nat.{ℕ, zero, suc, _+_, _*_, _-_, _/_, _%_, _^_, _<_, _≤_}
 use native.Mathlib.Nat.{add-comm, mod-lt, mod-mod, lt-of-lt-of-le, suc-mul, zero-mul, zero-add, mul-assoc, add-mul-div-right, add-mul-mod-self-right, div-eq-of-lt, not-suc-le-zero}
 use native.Mathlib.Numerals.{add-one}

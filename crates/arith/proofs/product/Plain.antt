@@ -1,5 +1,5 @@
 -- The product with a packed matrix is the product with its elements.
-use mathlib.Core.Path.{_≡_, refl, sym, ap, ap₂, _∙_}
+use mathlib.Core.Path.{_≡_, sym, ap, _∙_}
 use mathlib.Core.List.{List}
 use Prim.Native.Nat.{ℕ, _*_, _%_, _^_, _≤_}
 use lib.ListN.{length, getD}

@@ -1,12 +1,12 @@
 -- Each turn stores one word more.
-use mathlib.Core.Path.{_≡_, refl, sym, ap, _∙_}
+use mathlib.Core.Path.{_≡_, refl, _∙_}
 use mathlib.Core.List.{List}
-use Prim.Native.Nat.{ℕ, _+_, _*_, _-_, _<_, _≤_, min}
+use Prim.Native.Nat.{ℕ, _*_, _-_, _<_, _≤_}
 use native.Mathlib.Omega.{arith}
 use lib.ListN.{length}
 use borrow.Author.Needs.{needs}
 use Rattle.laws.specs.Lists.{build, part, laid}
-use Rattle.laws.proofs.Lists.{length-build, length-part}
+use Rattle.laws.proofs.Lists.{length-build}
 use Rattle.laws.proofs.Filling.{laid-none, laid-whole, word-more}
 use Rattle.arith.specs.Packing.{factorOf, slotBits, wordsOf, wordOf, packRow}
 use Rattle.arith.proofs.packing.Sizes.{factor-hi}

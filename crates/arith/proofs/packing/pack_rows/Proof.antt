@@ -1,12 +1,11 @@
 -- Each turn packs one row more.
 use mathlib.Core.Path.{_≡_, refl, sym, ap, _∙_}
-use mathlib.Core.List.{List}
 use Prim.Native.Nat.{ℕ, _+_, _*_, _-_, _<_, _≤_}
 use native.Mathlib.Nat.{le-of-eq}
 use native.Mathlib.Omega.{arith}
 use lib.ListN.{length}
 use borrow.Author.Needs.{needs}
-use Rattle.laws.specs.Lists.{join, row, part, laid}
+use Rattle.laws.specs.Lists.{join, row, laid}
 use Rattle.laws.proofs.Lists.{room, row-lent, length-part, length-row}
 use Rattle.laws.proofs.Filling.{laid-none, rows-length, rows-more}
 use Rattle.arith.specs.Packing.{wordsOf, packRow, packed}
@@ -98,7 +97,9 @@ pack-row-requires c κs =
     let st = aw .before .before .before in
     let a = st .args in
     let l = il .before .loop in
-    let from = ap length (row-lent (a .k) (l .j) (a .words .now)) ∙ length-row (a .k) (a .rows) (l .j) (a .words .now) (le-of-eq (sym (st .pre .1 .0))) (il .loop-test .taken) in
+    let from =
+    ap length (row-lent (a .k) (l .j) (a .words .now))
+    ∙ length-row (a .k) (a .rows) (l .j) (a .words .now) (le-of-eq (sym (st .pre .1 .0))) (il .loop-test .taken) in
     let to = ap length (row-lent (aw .words-of .result) (l .j) (l .out)) ∙ length-part _ _ (l .out) (to-in il) in
     ((st .pre .0 .0, st .pre .0 .1), (rw from (st .pre .0 .2), to ∙ aw .words-of .ensures ∙ ap (wordsOf (a .b)) (sym from)))
 

@@ -2,7 +2,7 @@
 use mathlib.Core.Path.{_≡_, sym, ap, ap₂, _∙_}
 use mathlib.Core.Bool.{Bool}
 use mathlib.Core.List.{[], _∷_}
-use Prim.Native.Nat.{ℕ, _*_}
+use Prim.Native.Nat.{ℕ}
 use native.Mathlib.Omega.{arith}
 use lib.ListN.{length}
 use borrow.Author.Needs.{needs}
@@ -16,18 +16,24 @@ use Rattle.arith.proofs.packing.Sizes.{words-le}
 use Rattle.arith.proofs.packing.row_wise_decompress.Statement.{statement}
 use Rattle.arith.proofs.packing.row_wise_decompress.Tie as tie
 
--- the answer's number is the definition's
-number : (c : tie.After-refusal)
-    → let a = c .before .before .before .before .before .before .args in packedNumber (c .refusal .result) ≡ decompressNumber (a .b) (a .rows) (a .k) (length (a .words .now)) (length (a .out .now))
-unfolding decompressNumber
+-- the definition's number for a call, and the answer that has it
+expected : tie.Start → ℕ
+expected st =
+    let a = st .args in
+    decompressNumber (a .b) (a .rows) (a .k) (length (a .words .now)) (length (a .out .now))
+
+number : (c : tie.After-refusal) → packedNumber (c .refusal .result) ≡ expected (c .before .before .before .before .before .before)
+unfolding expected decompressNumber
 number c =
     let a = c .before .before .before .before .before .before .args in
+    let shape =
+    c .before .before .shape-bad .ensures
+    ∙ ap (λ (n : ℕ). shapeBad (a .rows) (a .k) n (a .k) (length (a .words .now)) (length (a .out .now)))
+    (c .before .before .before .words-of .ensures) in
     c .refusal .ensures
-    ∙ ap₂ (λ (w s : Bool). first (w ⇒ 1 ∷ s ⇒ 2 ∷ [])) (c .before .width-bad .ensures)
-    (c .before .before .shape-bad .ensures ∙ ap (λ (n : ℕ). shapeBad (a .rows) (a .k) n (a .k) (length (a .words .now)) (length (a .out .now))) (c .before .before .before .words-of .ensures))
+    ∙ ap₂ (λ (w s : Bool). first (w ⇒ 1 ∷ s ⇒ 2 ∷ [])) (c .before .width-bad .ensures) shape
 
-none : (c : tie.After-enum-told)
-    → let a = c .before .before .before .before .before .before .before .before .args in decompressNumber (a .b) (a .rows) (a .k) (length (a .words .now)) (length (a .out .now)) ≡ 0
+none : (c : tie.After-enum-told) → expected (c .before .before .before .before .before .before .before .before) ≡ 0
 none c = sym (number (c .before .before)) ∙ ap packedNumber (c .enum-told .given .1)
 
 words-of-requires : tie.Need-words-of-requires
@@ -48,12 +54,13 @@ enum-told : tie.Need-enum-told
 enum-told c = search needs
 
 returns : tie.Need-returns
+unfolding expected
 returns c =
     let e = number (c .before) in
     (e, kept _ _ _ (rw e at (refusing (c .before .refusal .result) (c .match .keys2))))
 
 unpack-rows-requires : tie.Need-unpack-rows-requires
-unfolding decompressNumber
+unfolding expected decompressNumber
 unpack-rows-requires c κs =
     let a = c .before .before .before .before .before .before .before .before .before .args in
     let t = accepted (a .b) _ (none (c .before)) in
@@ -64,6 +71,7 @@ same-length : tie.Need-same-length
 same-length c = search needs
 
 returns-2 : tie.Need-returns-2
+unfolding expected
 returns-2 c =
     let z = none (c .before .before .before .before) in
     (sym z, c .before .before .unpack-rows .ensures ∙ written _ _ _ z)

@@ -1,13 +1,13 @@
 -- Each turn stores the elements of one word more.
-use mathlib.Core.Path.{_≡_, refl, sym, ap, _∙_}
+use mathlib.Core.Path.{_≡_, refl, ap, _∙_}
 use Prim.Native.Nat.{ℕ, _+_, _*_, _-_, _<_, _≤_, min}
 use native.Mathlib.Omega.{arith}
 use lib.ListN.{length, getD}
 use borrow.Author.Needs.{needs}
 use borrow.Rule.Slice.PartMut.{same-len-mid}
-use Rattle.laws.specs.Lists.{build, part, laid}
+use Rattle.laws.specs.Lists.{build, laid}
 use Rattle.laws.proofs.Lists.{length-build}
-use Rattle.laws.proofs.Filling.{laid-none, laid-whole, length-laid}
+use Rattle.laws.proofs.Filling.{laid-none, laid-whole}
 use Rattle.arith.specs.Packing.{wordsOf, slot, slots, elementOf, unpackRow}
 use Rattle.arith.proofs.packing.Sizes.{factor-hi}
 use Rattle.arith.proofs.packing.Rows.{none-done, starts-in, all-done, length-lent, lent-slots, unpacked-more}
@@ -106,7 +106,9 @@ loop-again c =
     let made : ys ≡ slots (a .b) (w .result) (getD (a .words .now) (l .q) 0) (e - l .q * f .result) =
     u .ensures ∙ ap (slots (a .b) (w .result) (getD (a .words .now) (l .q) 0)) len in (
       omega arith,
-      same-len-mid (l .q * f .result) (e - l .q * f .result) (l .out) ys (ap length (u .ensures) ∙ length-build _ (slot (a .b) (w .result) (getD (a .words .now) (l .q) 0))) ∙ l .inv .1,
+      same-len-mid (l .q * f .result) (e - l .q * f .result) (l .out) ys
+          (ap length (u .ensures) ∙ length-build _ (slot (a .b) (w .result) (getD (a .words .now) (l .q) 0)))
+          ∙ l .inv .1,
       unpacked-more (a .b) (f .ensures) (w .ensures) _ _ (turn il) (end al) (a .words .now) (a .out .now) (l .out) ys made (l .inv .2),
     )
 

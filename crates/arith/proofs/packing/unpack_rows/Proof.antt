@@ -1,11 +1,10 @@
 -- Each turn unpacks one row more.
 use mathlib.Core.Path.{_≡_, refl, sym, ap, ap₂, _∙_}
-use mathlib.Core.List.{List}
 use Prim.Native.Nat.{ℕ, _+_, _*_, _-_, _<_, _≤_}
 use native.Mathlib.Omega.{arith}
 use lib.ListN.{length}
 use borrow.Author.Needs.{needs}
-use Rattle.laws.specs.Lists.{join, row, part, laid}
+use Rattle.laws.specs.Lists.{join, row, laid}
 use Rattle.laws.proofs.Lists.{room, row-lent, length-part}
 use Rattle.laws.proofs.Filling.{laid-none, rows-length, rows-more}
 use Rattle.arith.specs.Packing.{wordsOf, unpackRow, unpacked}

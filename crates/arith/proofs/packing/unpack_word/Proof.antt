@@ -1,12 +1,12 @@
 -- Each turn reads one slot more.
-use mathlib.Core.Path.{_≡_, refl, sym, ap, _∙_}
-use Prim.Native.Nat.{_-_, _<_, _≤_}
+use mathlib.Core.Path.{_≡_, refl, _∙_}
+use Prim.Native.Nat.{_-_, _<_}
 use native.Mathlib.Omega.{arith}
 use lib.ListN.{length}
 use borrow.Author.Needs.{needs}
 use Rattle.laws.specs.Lists.{build, laid}
 use Rattle.laws.proofs.Lists.{length-build}
-use Rattle.laws.proofs.Filling.{laid-none, laid-whole, length-laid, word-more}
+use Rattle.laws.proofs.Filling.{laid-none, laid-whole, word-more}
 use Rattle.arith.specs.Packing.{slot, slots}
 use Rattle.arith.proofs.packing.Slots.{At, at-start, at-next, in-word, shift-lt, read}
 use Rattle.arith.proofs.packing.unpack_word.Statement.{statement}

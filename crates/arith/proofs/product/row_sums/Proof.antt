@@ -1,13 +1,12 @@
 -- Each turn stores the sum of one row more.
 use mathlib.Core.Path.{_≡_, refl, sym, ap, ap₂, _∙_}
-use Prim.Native.Nat.{ℕ, _+_, _*_, _-_, _<_, _≤_}
+use Prim.Native.Nat.{ℕ, _+_, _*_, _-_, _≤_}
 use native.Mathlib.Omega.{arith}
 use lib.ListN.{length}
 use borrow.Author.Needs.{needs}
 use Rattle.laws.specs.Lists.{build, row, laid}
 use Rattle.laws.proofs.Lists.{room, row-lent, length-part}
 use Rattle.laws.proofs.Filling.{laid-none, word-more}
-use Rattle.arith.specs.Packing.{wordsOf}
 use Rattle.arith.specs.Product.{entryOf, product}
 use Rattle.arith.proofs.product.row_sums.Statement.{statement}
 use Rattle.arith.proofs.product.row_sums.Tie as tie
@@ -61,7 +60,11 @@ row-sum-requires c κs =
     let st = aw .before .before .before .before in
     let n = aw .words-of .result in
     let l = il .before .loop in
-    ((st .pre .0 .0, st .pre .0 .1), (st .pre .0 .2, ap length (row-lent n (l .j) (st .args .words .now)) ∙ length-part _ _ (st .args .words .now) (row-in il) ∙ aw .words-of .ensures))
+    let lent =
+    ap length (row-lent n (l .j) (st .args .words .now))
+    ∙ length-part _ _ (st .args .words .now) (row-in il)
+    ∙ aw .words-of .ensures in
+    ((st .pre .0 .0, st .pre .0 .1), (st .pre .0 .2, lent))
 
 mul-out : tie.Need-mul-out Inv-loop μ-loop
 mul-out c = search needs

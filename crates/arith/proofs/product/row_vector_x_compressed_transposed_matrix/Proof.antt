@@ -12,7 +12,6 @@ use borrow.Author.Tests.{eqb-true, not-false}
 use lib.Dec.{eqb}
 use mathlib.Core.Bool.{not}
 use Rattle.laws.proofs.Refusals.{neither}
-use Rattle.arith.specs.Limits.{shapeBad}
 use Rattle.arith.specs.Packing.{wordsOf, packedNumber}
 use Rattle.arith.specs.Product.{operandsBad, productNumber}
 use Rattle.arith.proofs.limits.Shapes.{shaped}
@@ -21,18 +20,24 @@ use Rattle.arith.proofs.packing.Sizes.{words-le}
 use Rattle.arith.proofs.product.row_vector_x_compressed_transposed_matrix.Statement.{statement}
 use Rattle.arith.proofs.product.row_vector_x_compressed_transposed_matrix.Tie as tie
 
--- the answer's number is the definition's
-number : (c : tie.After-refusal)
-    → let a = c .before .before .before .before .before .before .before .args in packedNumber (c .refusal .result) ≡ productNumber (a .b) (a .rows) (a .k) (length (a .vector .now)) (length (a .words .now)) (length (a .out .now))
-unfolding productNumber
+-- the definition's number for a call, and the answer that has it
+expected : tie.Start → ℕ
+expected st =
+    let a = st .args in
+    productNumber (a .b) (a .rows) (a .k) (length (a .vector .now)) (length (a .words .now)) (length (a .out .now))
+
+number : (c : tie.After-refusal) → packedNumber (c .refusal .result) ≡ expected (c .before .before .before .before .before .before .before)
+unfolding expected productNumber
 number c =
     let a = c .before .before .before .before .before .before .before .args in
+    let shape =
+    c .before .before .operands-bad .ensures
+    ∙ ap (λ (n : ℕ). operandsBad (a .rows) (a .k) n (length (a .vector .now)) (length (a .words .now)) (length (a .out .now)))
+    (c .before .before .before .words-of .ensures) in
     c .refusal .ensures
-    ∙ ap₂ (λ (w s : Bool). first (w ⇒ 1 ∷ s ⇒ 2 ∷ [])) (c .before .width-bad .ensures)
-    (c .before .before .operands-bad .ensures ∙ ap (λ (n : ℕ). operandsBad (a .rows) (a .k) n (length (a .vector .now)) (length (a .words .now)) (length (a .out .now))) (c .before .before .before .words-of .ensures))
+    ∙ ap₂ (λ (w s : Bool). first (w ⇒ 1 ∷ s ⇒ 2 ∷ [])) (c .before .width-bad .ensures) shape
 
-none : (c : tie.After-enum-told)
-    → let a = c .before .before .before .before .before .before .before .before .before .args in productNumber (a .b) (a .rows) (a .k) (length (a .vector .now)) (length (a .words .now)) (length (a .out .now)) ≡ 0
+none : (c : tie.After-enum-told) → expected (c .before .before .before .before .before .before .before .before .before) ≡ 0
 none c = sym (number (c .before .before)) ∙ ap packedNumber (c .enum-told .given .1)
 
 words-of-requires : tie.Need-words-of-requires
@@ -53,12 +58,13 @@ enum-told : tie.Need-enum-told
 enum-told c = search needs
 
 returns : tie.Need-returns
+unfolding expected
 returns c =
     let e = number (c .before) in
     (e, kept _ _ _ (rw e at (refusing (c .before .refusal .result) (c .match .keys2))))
 
 row-sums-requires : tie.Need-row-sums-requires
-unfolding productNumber operandsBad
+unfolding expected productNumber operandsBad
 row-sums-requires c κs =
     let a = c .before .before .before .before .before .before .before .before .before .before .args in
     let t = accepted (a .b) _ (none (c .before)) in
@@ -71,6 +77,7 @@ same-length : tie.Need-same-length
 same-length c = search needs
 
 returns-2 : tie.Need-returns-2
+unfolding expected
 returns-2 c =
     let z = none (c .before .before .before .before) in
     (sym z, c .before .before .row-sums .ensures ∙ written _ _ _ z)
