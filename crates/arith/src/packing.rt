@@ -9,10 +9,13 @@ ghost use Rattle.laws.specs.Lists.{laid};
 ghost use Rattle.arith.specs.Packing.{factorOf, slotBits, wordsOf, wordOf, packRow, packed, unpackRow, unpacked, Slotted, slots};
 ghost use Rattle.arith.specs.Packing.{packedNumber, compressNumber, compressAfter, decompressNumber, decompressAfter};
 
-// What packing, unpacking and the packed product answer: 0, 1 or 2 of document 01.
+// What packing, unpacking and the packed product answer.
 pub enum Packed {
+    // 0: the output is written.
     Done,
+    // 1: b is outside 4..=14.
     Width,
+    // 2: a dimension is outside its limit, a lent length is wrong, or the output is too short.
     Shape,
 }
 

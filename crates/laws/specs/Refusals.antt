@@ -8,6 +8,7 @@ use lib.Dec.{ltb}
 pub data Test : Type 0 where
   _⇒_ : Bool → ℕ → Test
 
+-- tighter than `∷`, so that a list of tests reads like 01's orders
 infix 68 _⇒_
 -- the number of the first test, in order, that holds; 0, success, where none does
 abbrev pub first : List Test → ℕ
