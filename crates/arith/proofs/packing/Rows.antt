@@ -7,10 +7,10 @@ use native.Mathlib.Omega.{arith}
 use lib.ListN.{length, getD}
 use lib.Arith.{digits-div, digits-mod}
 use borrow.Rule.Slice.PartMut.{putMid}
-use Rattle.laws.specs.Lists.{build, part, laid}
+use Rattle.laws.specs.Lists.{build, part}
 use Rattle.laws.specs.Sums.{sum}
 use Rattle.laws.proofs.Lists.{length-part, getD-part, part-short, length-build, build-ext, build-add}
-use Rattle.laws.proofs.Filling.{part-more}
+use Rattle.laws.proofs.Filling.{Filled, part-more}
 use Rattle.laws.proofs.Sums.{sum-ext, sum-add, cong-wrap, wrap-add}
 use Rattle.arith.specs.Packing.{factorOf, slotBits, wordsOf, Slotted, wordOf, slot, slots, elementOf}
 use Rattle.arith.proofs.packing.Sizes.{slotted, starts, cover}
@@ -62,19 +62,19 @@ module _ (b : ℕ) {f w : ℕ} (hf : f ≡ factorOf b) (hw : w ≡ slotBits b) w
         ∙ ap (λ (g : ℕ). part (q * g) g xs) hf)
 
     -- one word more is unpacked
-    pub unpacked-more : (ws old new ys : List ℕ) → ys ≡ slots b w (getD ws q 0) (e - q * f)
-        → new ≡ laid (build (min (q * f) k) (elementOf b ws)) old
-        → putMid (q * f) (e - q * f) new ys ≡ laid (build (min ((q + 1) * f) k) (elementOf b ws)) old
-    unpacked-more ws old new ys hy hn =
+    pub unpacked-more : (ws old new ys : List ℕ) → ys ≡ slots b w (getD ws q 0) (e - q * f) → length old ≡ k
+        → Filled (build (min (q * f) k) (elementOf b ws)) old new
+        → Filled (build (min ((q + 1) * f) k) (elementOf b ws)) old (putMid (q * f) (e - q * f) new ys)
+    unpacked-more ws old new ys hy ho p =
         let n = e - q * f in
         let g = elementOf b ws in
         let shown : ys ≡ build n (λ i. g (q * f + i)) =
         hy ∙ build-ext n (slot b w (getD ws q 0)) (λ i. g (q * f + i)) (λ i l. sym (element-at ws q i (omega arith))) in
-        part-more (build (q * f) g) ys old new (q * f) n (length-build (q * f) g)
-        (ap length shown ∙ length-build n (λ i. g (q * f + i)))
-        (hn ∙ ap (λ (i : ℕ). laid (build i g) old) done-before)
-        ∙ ap (λ xs. laid xs old)
-        (ap (λ zs. build (q * f) g ++ zs) shown ∙ sym (build-add (q * f) n g) ∙ ap (λ (i : ℕ). build i g) done-after)
+        let whole : build (q * f) g ++ ys ≡ build (min ((q + 1) * f) k) g =
+        ap (λ zs. build (q * f) g ++ zs) shown ∙ sym (build-add (q * f) n g) ∙ ap (λ (i : ℕ). build i g) done-after in
+        rw (← whole)
+        (part-more (build (q * f) g) ys old new (q * f) n (length-build (q * f) g)
+        (ap length shown ∙ length-build n (λ i. g (q * f + i))) (omega (arith, starts-in k q h)) (rw done-before at p))
 
     -- one word more is added to the row's sum
     pub summed-more : (M : ℕ) (v ws : List ℕ) (acc x r : ℕ) → length v ≡ k

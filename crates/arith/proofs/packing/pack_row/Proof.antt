@@ -5,9 +5,9 @@ use Prim.Native.Nat.{ℕ, _*_, _-_, _<_, _≤_}
 use native.Mathlib.Omega.{arith}
 use lib.ListN.{length}
 use borrow.Author.Needs.{needs}
-use Rattle.laws.specs.Lists.{build, part, laid}
+use Rattle.laws.specs.Lists.{build, part}
 use Rattle.laws.proofs.Lists.{length-build}
-use Rattle.laws.proofs.Filling.{laid-none, laid-whole, word-more}
+use Rattle.laws.proofs.Filling.{Filled, filled-none, filled-whole, word-more}
 use Rattle.arith.specs.Packing.{factorOf, slotBits, wordsOf, wordOf, packRow}
 use Rattle.arith.proofs.packing.Sizes.{factor-hi}
 use Rattle.arith.proofs.packing.Rows.{starts-in, lent-slots, packed-word}
@@ -20,7 +20,7 @@ word b xs q = wordOf b (slotBits b) (part (q * factorOf b) (factorOf b) xs)
 
 abbrev Inv-loop : tie.InvT-loop
 Inv-loop b elements out₀ f w q₀ out q =
-    (q ≤ length out₀) × (length out ≡ length out₀) × (out ≡ laid (build q (word b elements)) out₀)
+    (q ≤ length out₀) × Filled (build q (word b elements)) out₀ out
 
 abbrev μ-loop : tie.MeasureT-loop
 μ-loop b elements out₀ f w q₀ out q = length out₀ - q
@@ -45,7 +45,7 @@ slot-bits-requires c κs = search needs
 
 loop-holds : tie.Need-loop-holds Inv-loop μ-loop
 unfolding build
-loop-holds c = (search needs, refl, laid-none _)
+loop-holds c = (search needs, filled-none _)
 
 mul-start : tie.Need-mul-start Inv-loop μ-loop
 mul-start c = omega (arith, inside c)
@@ -97,8 +97,7 @@ loop-again c =
     ∙ packed-word (a .b) (il .before .before .before .factor .ensures) (il .before .before .slot-bits .ensures) _ _
     (turn il) (c .before .before .least .ensures) (a .elements .now) refl in (
       omega arith,
-      search needs,
-      rw w (word-more (word (a .b) (a .elements .now)) (l .q) (a .out .now) (l .out) (omega arith) (l .inv .2)),
+      rw w (word-more (word (a .b) (a .elements .now)) (l .q) (a .out .now) (l .out) (omega arith) (l .inv .1)),
     )
 
 same-length : tie.Need-same-length Inv-loop μ-loop
@@ -111,7 +110,7 @@ returns c =
     let l = c .before .loop in
     let f = word (st .args .b) (st .args .elements .now) in
     let e : l .q ≡ wordsOf (st .args .b) (length (st .args .elements .now)) = omega arith in
-    rw e at (l .inv .2) ∙ laid-whole _ _ (omega (arith, length-build (wordsOf (st .args .b) (length (st .args .elements .now))) f))
+    filled-whole (rw e at (l .inv .1)) (omega (arith, length-build (wordsOf (st .args .b) (length (st .args .elements .now))) f))
 
 pub pack-row-spec : {M : Type 1} → statement M
 pack-row-spec =

@@ -1,13 +1,13 @@
 -- Each turn packs one row more.
-use mathlib.Core.Path.{_≡_, refl, sym, ap, _∙_}
+use mathlib.Core.Path.{_≡_, sym, ap, _∙_}
 use Prim.Native.Nat.{ℕ, _+_, _*_, _-_, _<_, _≤_}
 use native.Mathlib.Nat.{le-of-eq}
 use native.Mathlib.Omega.{arith}
 use lib.ListN.{length}
 use borrow.Author.Needs.{needs}
-use Rattle.laws.specs.Lists.{join, row, laid}
+use Rattle.laws.specs.Lists.{join, row}
 use Rattle.laws.proofs.Lists.{room, row-lent, length-part, length-row}
-use Rattle.laws.proofs.Filling.{laid-none, rows-length, rows-more}
+use Rattle.laws.proofs.Filling.{Filled, filled-none, row-more}
 use Rattle.arith.specs.Packing.{wordsOf, packRow, packed}
 use Rattle.arith.proofs.packing.Sizes.{length-packed}
 use Rattle.arith.proofs.packing.pack_rows.Statement.{statement}
@@ -15,7 +15,7 @@ use Rattle.arith.proofs.packing.pack_rows.Tie as tie
 
 abbrev Inv-loop : tie.InvT-loop
 Inv-loop b rows k words out₀ n j₀ out j =
-    (j ≤ rows) × (length out ≡ length out₀) × (out ≡ laid (join j (λ i. packRow b (row k words i))) out₀)
+    (j ≤ rows) × Filled (join j (λ i. packRow b (row k words i))) out₀ out
 
 abbrev μ-loop : tie.MeasureT-loop
 μ-loop b rows k words out₀ n j₀ out j = rows - j
@@ -52,7 +52,7 @@ words-of-requires c κs = search needs
 
 loop-holds : tie.Need-loop-holds Inv-loop μ-loop
 unfolding join
-loop-holds c = (search needs, refl, laid-none _)
+loop-holds c = (search needs, filled-none _)
 
 mul-from : tie.Need-mul-from Inv-loop μ-loop
 mul-from c = omega (arith, from-in c)
@@ -116,10 +116,8 @@ loop-again c =
     let a = aw .before .before .before .args in
     let l = il .before .loop in
     let p = c .before .before .pack-row in
-    let more =
-    rows-more _ _ _ (each aw) _ (fits aw) (l .j) (l .out) (p .last .1 .1 .0) (il .loop-test .taken) (l .inv .2)
-    (p .ensures ∙ ap (packRow (a .b)) (row-lent (a .k) (l .j) (a .words .now))) in
-    (omega arith, rows-length _ _ _ (each aw) _ (fits aw) _ _ (omega arith) more, more)
+    let made = p .ensures ∙ ap (packRow (a .b)) (row-lent (a .k) (l .j) (a .words .now)) in
+    (omega arith, row-more _ _ _ (each aw) _ (l .out) _ (fits aw) (l .j) (il .loop-test .taken) made (l .inv .1))
 
 same-length : tie.Need-same-length Inv-loop μ-loop
 same-length c = search needs
@@ -128,7 +126,7 @@ returns : tie.Need-returns Inv-loop μ-loop
 unfolding packed
 returns c =
     let e : c .before .loop .j ≡ c .before .before .before .before .before .args .rows = omega arith in
-    rw e at (c .before .loop .inv .2)
+    rw e at (c .before .loop .inv .1 .laid-is)
 
 pub pack-rows-spec : {M : Type 1} → statement M
 pack-rows-spec =

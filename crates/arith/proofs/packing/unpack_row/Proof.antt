@@ -4,11 +4,10 @@ use Prim.Native.Nat.{ℕ, _+_, _*_, _-_, _<_, _≤_, min}
 use native.Mathlib.Omega.{arith}
 use lib.ListN.{length, getD}
 use borrow.Author.Needs.{needs}
-use borrow.Rule.Slice.PartMut.{same-len-mid}
-use Rattle.laws.specs.Lists.{build, laid}
+use Rattle.laws.specs.Lists.{build}
 use Rattle.laws.proofs.Lists.{length-build}
-use Rattle.laws.proofs.Filling.{laid-none, laid-whole}
-use Rattle.arith.specs.Packing.{wordsOf, slot, slots, elementOf, unpackRow}
+use Rattle.laws.proofs.Filling.{Filled, filled-none, filled-whole}
+use Rattle.arith.specs.Packing.{wordsOf, slots, elementOf, unpackRow}
 use Rattle.arith.proofs.packing.Sizes.{factor-hi}
 use Rattle.arith.proofs.packing.Rows.{none-done, starts-in, all-done, length-lent, lent-slots, unpacked-more}
 use Rattle.arith.proofs.packing.unpack_row.Statement.{statement}
@@ -16,7 +15,7 @@ use Rattle.arith.proofs.packing.unpack_row.Tie as tie
 
 abbrev Inv-loop : tie.InvT-loop
 Inv-loop b words out₀ f w q₀ out q =
-    (q ≤ length words) × (length out ≡ length out₀) × (out ≡ laid (build (min (q * f) (length out₀)) (elementOf b words)) out₀)
+    (q ≤ length words) × Filled (build (min (q * f) (length out₀)) (elementOf b words)) out₀ out
 
 abbrev μ-loop : tie.MeasureT-loop
 μ-loop b words out₀ f w q₀ out q = length words - q
@@ -38,7 +37,7 @@ end : (c : tie.After-least Inv-loop μ-loop)
     → let il = c .before in
     let n = il .before .loop .q * il .before .before .before .factor .result in
     c .least .result ≡ min (n + il .before .before .before .factor .result) (length (il .before .before .before .before .before .before .args .out .now))
-end c = c .least .ensures ∙ ap (min _) (c .before .before .loop .inv .1)
+end c = c .least .ensures ∙ ap (min _) (c .before .before .loop .inv .1 .long)
 
 factor-requires : tie.Need-factor-requires Inv-loop μ-loop
 factor-requires c κs = search needs
@@ -48,7 +47,7 @@ slot-bits-requires c κs = search needs
 
 loop-holds : tie.Need-loop-holds Inv-loop μ-loop
 unfolding build
-loop-holds c = (search needs, refl, rw (none-done (c .before .factor .result) (length (c .before .before .before .before .args .out .now))) (laid-none _))
+loop-holds c = (search needs, rw (none-done (c .before .factor .result) (length (c .before .before .before .before .args .out .now))) (filled-none _))
 
 mul-start : tie.Need-mul-start Inv-loop μ-loop
 mul-start c = omega (arith, inside c)
@@ -83,7 +82,7 @@ unpack-word-requires c κs =
     let il = al .before in
     let st = il .before .before .before .before .before .before in
     lent-slots (st .args .b) (il .before .before .before .factor .ensures) (il .before .before .slot-bits .ensures) _ _
-    (turn il) (end al) (il .before .loop .out) (il .before .loop .inv .1) (st .pre .0 .0) (st .pre .0 .1)
+    (turn il) (end al) (il .before .loop .out) (il .before .loop .inv .1 .long) (st .pre .0 .0) (st .pre .0 .1)
 
 add-q : tie.Need-add-q Inv-loop μ-loop
 add-q c = search needs
@@ -102,14 +101,11 @@ loop-again c =
     let w = il .before .before .slot-bits in
     let e = al .least .result in
     let ys = u .last .1 .1 .1 .0 in
-    let len = length-lent (a .b) (f .ensures) (w .ensures) _ _ (turn il) (end al) (l .out) (l .inv .1) in
+    let len = length-lent (a .b) (f .ensures) (w .ensures) _ _ (turn il) (end al) (l .out) (l .inv .1 .long) in
     let made : ys ≡ slots (a .b) (w .result) (getD (a .words .now) (l .q) 0) (e - l .q * f .result) =
     u .ensures ∙ ap (slots (a .b) (w .result) (getD (a .words .now) (l .q) 0)) len in (
       omega arith,
-      same-len-mid (l .q * f .result) (e - l .q * f .result) (l .out) ys
-          (ap length (u .ensures) ∙ length-build _ (slot (a .b) (w .result) (getD (a .words .now) (l .q) 0)))
-          ∙ l .inv .1,
-      unpacked-more (a .b) (f .ensures) (w .ensures) _ _ (turn il) (end al) (a .words .now) (a .out .now) (l .out) ys made (l .inv .2),
+      unpacked-more (a .b) (f .ensures) (w .ensures) _ _ (turn il) (end al) (a .words .now) (a .out .now) (l .out) ys made refl (l .inv .1),
     )
 
 same-length : tie.Need-same-length Inv-loop μ-loop
@@ -123,11 +119,10 @@ returns c =
     let l = c .before .loop in
     let k = length (a .out .now) in
     let e : l .q ≡ wordsOf (a .b) k = omega arith in
-    l .inv .2
-    ∙ ap (λ (i : ℕ). laid (build i (elementOf (a .b) (a .words .now))) (a .out .now))
-    (ap (λ (q : ℕ). min (q * c .before .before .before .factor .result) k) e
-    ∙ all-done (a .b) (c .before .before .before .factor .ensures) (c .before .before .slot-bits .ensures) k)
-    ∙ laid-whole _ _ (omega (arith, length-build k (elementOf (a .b) (a .words .now))))
+    let all : min (l .q * c .before .before .before .factor .result) k ≡ k =
+    ap (λ (q : ℕ). min (q * c .before .before .before .factor .result) k) e
+    ∙ all-done (a .b) (c .before .before .before .factor .ensures) (c .before .before .slot-bits .ensures) k in
+    filled-whole (rw all at (l .inv .1)) (omega (arith, length-build k (elementOf (a .b) (a .words .now))))
 
 pub unpack-row-spec : {M : Type 1} → statement M
 unpack-row-spec =

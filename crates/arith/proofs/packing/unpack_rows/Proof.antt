@@ -1,12 +1,12 @@
 -- Each turn unpacks one row more.
-use mathlib.Core.Path.{_≡_, refl, sym, ap, ap₂, _∙_}
+use mathlib.Core.Path.{_≡_, sym, ap, ap₂, _∙_}
 use Prim.Native.Nat.{ℕ, _+_, _*_, _-_, _<_, _≤_}
 use native.Mathlib.Omega.{arith}
 use lib.ListN.{length}
 use borrow.Author.Needs.{needs}
 use Rattle.laws.specs.Lists.{join, row, laid}
 use Rattle.laws.proofs.Lists.{room, row-lent, length-part}
-use Rattle.laws.proofs.Filling.{laid-none, rows-length, rows-more}
+use Rattle.laws.proofs.Filling.{Filled, filled-none, row-more}
 use Rattle.arith.specs.Packing.{wordsOf, unpackRow, unpacked}
 use Rattle.arith.proofs.packing.Sizes.{length-unpacked}
 use Rattle.arith.proofs.packing.unpack_rows.Statement.{statement}
@@ -14,7 +14,7 @@ use Rattle.arith.proofs.packing.unpack_rows.Tie as tie
 
 abbrev Inv-loop : tie.InvT-loop
 Inv-loop b rows k words out₀ n j₀ out j =
-    (j ≤ rows) × (length out ≡ length out₀) × (out ≡ laid (join j (λ i. unpackRow b k (row n words i))) out₀)
+    (j ≤ rows) × Filled (join j (λ i. unpackRow b k (row n words i))) out₀ out
 
 abbrev μ-loop : tie.MeasureT-loop
 μ-loop b rows k words out₀ n j₀ out j = rows - j
@@ -46,7 +46,7 @@ words-of-requires c κs = search needs
 
 loop-holds : tie.Need-loop-holds Inv-loop μ-loop
 unfolding join
-loop-holds c = (search needs, refl, laid-none _)
+loop-holds c = (search needs, filled-none _)
 
 mul-from : tie.Need-mul-from Inv-loop μ-loop
 mul-from c = omega (arith, from-in c)
@@ -110,10 +110,8 @@ loop-again c =
     let l = il .before .loop in
     let p = c .before .before .unpack-row in
     let to = ap length (row-lent (a .k) (l .j) (l .out)) ∙ length-part _ _ (l .out) (to-in il) in
-    let more =
-    rows-more _ _ _ (each aw) _ (st .pre .1 .1) (l .j) (l .out) (p .last .1 .1 .0) (il .loop-test .taken) (l .inv .2)
-    (p .ensures ∙ ap₂ (unpackRow (a .b)) to (row-lent (aw .words-of .result) (l .j) (a .words .now))) in
-    (omega arith, rows-length _ _ _ (each aw) _ (st .pre .1 .1) _ _ (omega arith) more, more)
+    let made = p .ensures ∙ ap₂ (unpackRow (a .b)) to (row-lent (aw .words-of .result) (l .j) (a .words .now)) in
+    (omega arith, row-more _ _ _ (each aw) _ (l .out) _ (st .pre .1 .1) (l .j) (il .loop-test .taken) made (l .inv .1))
 
 same-length : tie.Need-same-length Inv-loop μ-loop
 same-length c = search needs
@@ -124,7 +122,7 @@ returns c =
     let aw = c .before .before in
     let a = aw .before .before .before .args in
     let e : c .before .loop .j ≡ a .rows = omega arith in
-    c .before .loop .inv .2
+    c .before .loop .inv .1 .laid-is
     ∙ ap₂ (λ (j n : ℕ). laid (join j (λ i. unpackRow (a .b) (a .k) (row n (a .words .now) i))) (a .out .now)) e (aw .words-of .ensures)
 
 pub unpack-rows-spec : {M : Type 1} → statement M

@@ -1,12 +1,12 @@
 -- Each turn reads one slot more.
-use mathlib.Core.Path.{_≡_, refl, _∙_}
+use mathlib.Core.Path.{_≡_}
 use Prim.Native.Nat.{_-_, _<_}
 use native.Mathlib.Omega.{arith}
 use lib.ListN.{length}
 use borrow.Author.Needs.{needs}
-use Rattle.laws.specs.Lists.{build, laid}
+use Rattle.laws.specs.Lists.{build}
 use Rattle.laws.proofs.Lists.{length-build}
-use Rattle.laws.proofs.Filling.{laid-none, laid-whole, word-more}
+use Rattle.laws.proofs.Filling.{Filled, filled-none, filled-whole, word-more}
 use Rattle.arith.specs.Packing.{slot, slots}
 use Rattle.arith.proofs.packing.Slots.{At, at-start, at-next, in-word, shift-lt, read}
 use Rattle.arith.proofs.packing.unpack_word.Statement.{statement}
@@ -14,7 +14,7 @@ use Rattle.arith.proofs.packing.unpack_word.Tie as tie
 
 abbrev Inv-loop : tie.InvT-loop
 Inv-loop b w word part₀ low shift₀ s₀ part shift s =
-    At (length part₀) w shift s × (length part ≡ length part₀) × (part ≡ laid (slots b w word s) part₀)
+    At (length part₀) w shift s × Filled (slots b w word s) part₀ part
 
 abbrev μ-loop : tie.MeasureT-loop
 μ-loop b w word part₀ low shift₀ s₀ part shift s = length part₀ - s
@@ -24,7 +24,7 @@ low-mask-requires c κs = c .before .pre .high
 
 loop-holds : tie.Need-loop-holds Inv-loop μ-loop
 unfolding build
-loop-holds c = (at-start _ _, refl, laid-none _)
+loop-holds c = (at-start _ _, filled-none _)
 
 -- in a turn: slot s is one of those asked for
 turn : (c : tie.In-loop Inv-loop μ-loop) → c .before .loop .s < length (c .before .before .before .before .args .part .now)
@@ -54,9 +54,8 @@ loop-again c =
     let l = c .before .loop in
     let m = c .before .before .low-mask in (
       at-next (l .inv .0) (turn c),
-      search needs,
       rw (read (a .b) (a .w) (a .word) (m .result) (l .shift) (l .s) (m .ensures) (l .inv .0 .place))
-          (word-more (slot (a .b) (a .w) (a .word)) (l .s) (a .part .now) (l .part) (turn c) (l .inv .2)),
+          (word-more (slot (a .b) (a .w) (a .word)) (l .s) (a .part .now) (l .part) (turn c) (l .inv .1)),
     )
 
 same-length : tie.Need-same-length Inv-loop μ-loop
@@ -67,7 +66,7 @@ returns c =
     let a = c .before .before .before .before .args in
     let l = c .before .loop in
     let e : l .s ≡ length (a .part .now) = omega arith in
-    rw e at (l .inv .2) ∙ laid-whole _ _ (omega (arith, length-build (length (a .part .now)) (slot (a .b) (a .w) (a .word))))
+    filled-whole (rw e at (l .inv .1)) (omega (arith, length-build (length (a .part .now)) (slot (a .b) (a .w) (a .word))))
 
 pub unpack-word-spec : {M : Type 1} → statement M
 unpack-word-spec =

@@ -1,19 +1,19 @@
 -- Each turn stores the sum of one row more.
-use mathlib.Core.Path.{_≡_, refl, sym, ap, ap₂, _∙_}
+use mathlib.Core.Path.{_≡_, sym, ap, ap₂, _∙_}
 use Prim.Native.Nat.{ℕ, _+_, _*_, _-_, _≤_}
 use native.Mathlib.Omega.{arith}
 use lib.ListN.{length}
 use borrow.Author.Needs.{needs}
 use Rattle.laws.specs.Lists.{build, row, laid}
 use Rattle.laws.proofs.Lists.{room, row-lent, length-part}
-use Rattle.laws.proofs.Filling.{laid-none, word-more}
+use Rattle.laws.proofs.Filling.{Filled, filled-none, word-more}
 use Rattle.arith.specs.Product.{entryOf, product}
 use Rattle.arith.proofs.product.row_sums.Statement.{statement}
 use Rattle.arith.proofs.product.row_sums.Tie as tie
 
 abbrev Inv-loop : tie.InvT-loop
 Inv-loop b vector rows words out₀ width j₀ out j =
-    (j ≤ rows) × (length out ≡ length out₀) × (out ≡ laid (build j (λ i. entryOf b vector (row width words i))) out₀)
+    (j ≤ rows) × Filled (build j (λ i. entryOf b vector (row width words i))) out₀ out
 
 abbrev μ-loop : tie.MeasureT-loop
 μ-loop b vector rows words out₀ width j₀ out j = rows - j
@@ -33,7 +33,7 @@ words-of-requires c κs = search needs
 
 loop-holds : tie.Need-loop-holds Inv-loop μ-loop
 unfolding build
-loop-holds c = (search needs, refl, laid-none _)
+loop-holds c = (search needs, filled-none _)
 
 mul-start : tie.Need-mul-start Inv-loop μ-loop
 mul-start c = omega (arith, row-in c)
@@ -88,8 +88,7 @@ loop-again c =
     let e : c .row-sum .result ≡ entryOf (a .b) (a .vector .now) (row n (a .words .now) (l .j)) =
     c .row-sum .ensures ∙ ap (entryOf (a .b) (a .vector .now)) (row-lent n (l .j) (a .words .now)) in (
       omega arith,
-      search needs,
-      rw e (word-more (λ i. entryOf (a .b) (a .vector .now) (row n (a .words .now) i)) (l .j) (a .out .now) (l .out) (omega arith) (l .inv .2)),
+      rw e (word-more (λ i. entryOf (a .b) (a .vector .now) (row n (a .words .now) i)) (l .j) (a .out .now) (l .out) (omega arith) (l .inv .1)),
     )
 
 same-length : tie.Need-same-length Inv-loop μ-loop
@@ -101,7 +100,7 @@ returns c =
     let aw = c .before .before in
     let a = aw .before .before .before .before .args in
     let e : c .before .loop .j ≡ a .rows = omega arith in
-    c .before .loop .inv .2
+    c .before .loop .inv .1 .laid-is
     ∙ ap₂ (λ (j n : ℕ). laid (build j (λ i. entryOf (a .b) (a .vector .now) (row n (a .words .now) i))) (a .out .now)) e (aw .words-of .ensures)
 
 pub row-sums-spec : {M : Type 1} → statement M
