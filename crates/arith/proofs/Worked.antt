@@ -2,11 +2,13 @@
 use mathlib.Core.Path.{refl}
 use Rattle.laws.specs.Lists.{build, join, laid}
 use Rattle.laws.specs.Sums.{sum}
+use Rattle.laws.specs.Search.{some, lowest}
 use Rattle.arith.specs.Limits.{shapeBad}
 use Rattle.arith.specs.Packing.{factorOf, slotBits, wordsOf, wordOf, packRow, packed, elementOf, compressNumber}
 use Rattle.arith.specs.Product.{entryOf, product, operandsBad, productNumber}
+use Rattle.arith.specs.Sampler.{accepted, ternary, given, holdsEnough, shortest, tooFew, sampleNumber}
 use Rattle.arith.specs.Worked.{worked, AsStated}
 
 pub as-stated : AsStated worked
-unfolding sum build join laid shapeBad factorOf slotBits wordsOf wordOf packRow packed elementOf compressNumber entryOf product operandsBad productNumber
-as-stated = (refl, (refl, (refl, (refl, (refl, (refl, tt))))))
+unfolding sum build join laid shapeBad factorOf slotBits wordsOf wordOf packRow packed elementOf compressNumber entryOf product operandsBad productNumber some lowest accepted ternary given holdsEnough shortest tooFew sampleNumber
+as-stated = (refl, (refl, (refl, (refl, (refl, (refl, (refl, tt)))))))

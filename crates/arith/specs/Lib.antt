@@ -2,4 +2,6 @@
 pub mod Limits
 pub mod Packing
 pub mod Product
+pub mod Sampler
+pub mod Codec
 pub mod Worked

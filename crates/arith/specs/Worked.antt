@@ -4,6 +4,7 @@ use Prim.Native.Nat.{ℕ}
 use mathlib.Core.List.{List, [], _∷_}
 use Rattle.arith.specs.Packing.{compressAfter}
 use Rattle.arith.specs.Product.{productAfter}
+use Rattle.arith.specs.Sampler.{sampleRead, sampleAfter}
 
 -- 01's number of a case, what the contracts' definitions give for it, and what 01 says
 pub record Case : Type 0 where
@@ -14,6 +15,10 @@ pub record Case : Type 0 where
 abbrev case : ℕ → List ℕ → List ℕ → Case
 case n xs ys = record { number = n; found = xs; stated = ys }
 
+-- the random words of case 7; its answer is the count of words read, and then the output
+abbrev lentWords : List ℕ
+lentWords = 0 ∷ 5 ∷ 6 ∷ 16 ∷ 10 ∷ 11 ∷ 15 ∷ []
+
 -- Each output is lent with 7 in every word, which nothing of it may keep.
 abbrev pub worked : List Case
 worked =
@@ -23,6 +28,7 @@ worked =
     ∷ case 4 (compressAfter 4 1 5 (15 ∷ 1 ∷ 2 ∷ 3 ∷ 4 ∷ []) (7 ∷ 7 ∷ [])) (50462991 ∷ 4 ∷ [])
     ∷ case 5 (compressAfter 9 1 3 (511 ∷ 1 ∷ 0 ∷ []) (7 ∷ [])) (1535 ∷ [])
     ∷ case 6 (productAfter 10 1 4 (2 ∷ 3 ∷ 4294967295 ∷ 1 ∷ []) (3147777 ∷ 4 ∷ []) (7 ∷ [])) (9 ∷ [])
+    ∷ case 7 (sampleRead 5 6 lentWords ∷ sampleAfter 5 lentWords (7 ∷ 7 ∷ 7 ∷ 7 ∷ 7 ∷ 7 ∷ [])) (7 ∷ 0 ∷ 0 ∷ 1 ∷ 1 ∷ 4294967295 ∷ 4294967295 ∷ [])
     ∷ []
 
 -- every case of a table is as 01 states it

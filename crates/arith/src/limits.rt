@@ -1,11 +1,12 @@
-// The limits of document 01, "Numbers we allow", tested before any product of dimensions is taken.
+// The limits of document 01, "Numbers we allow", tested before any product of dimensions is taken. The public ones serve
+// the builder and the client too.
 ghost use mathlib.Core.Path.{_≡_};
 ghost use Prim.Native.Nat.{_+_, _≤_};
 ghost use Rattle.laws.specs.Refusals.{outside, widthBad};
-ghost use Rattle.arith.specs.Limits.{shapeBad};
+ghost use Rattle.arith.specs.Limits.{shapeBad, matrixBad, anyAbove};
 
 // Is x none of lo, .., hi?
-pub(crate) fn out_of(lo: usize, hi: usize, x: usize) -> bool
+pub fn out_of(lo: usize, hi: usize, x: usize) -> bool
     ensures { λ r. ⌜ r ≡ outside lo hi x ⌝ }
 {
     if x < lo {
@@ -15,7 +16,7 @@ pub(crate) fn out_of(lo: usize, hi: usize, x: usize) -> bool
 }
 
 // 1: is b outside 4..=14?
-pub(crate) fn width_bad(b: u32) -> bool
+pub fn width_bad(b: u32) -> bool
     ensures { λ r. ⌜ r ≡ widthBad b ⌝ }
 {
     out_of(4, 14, b as usize)
@@ -44,4 +45,31 @@ pub(crate) fn shape_bad(
         return true;
     }
     room < rows * to
+}
+
+// 2: a matrix with each dimension 1 to 4,096, lent as so many words.
+pub(crate) fn matrix_bad(rows: usize, columns: usize, lent: usize) -> bool
+    ensures { λ r. ⌜ r ≡ matrixBad rows columns lent ⌝ }
+{
+    if out_of(1, 4096, rows) {
+        return true;
+    }
+    if out_of(1, 4096, columns) {
+        return true;
+    }
+    lent != rows * columns
+}
+
+// 17: is one of the elements above the greatest that is allowed, which is 2^b - 1?
+pub fn any_above(greatest: u32, elements: &[u32]) -> bool
+    ensures { λ r. ⌜ r ≡ anyAbove greatest (now (elements .entry)) ⌝ }
+{
+    let mut i: usize = 0;
+    while i < elements.len() {
+        if greatest < elements[i] {
+            return true;
+        }
+        i += 1;
+    }
+    false
 }

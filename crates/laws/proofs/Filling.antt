@@ -64,14 +64,17 @@ module _ {A : Type 0} where
         laid-is = q;
       }
 
+  -- one element more, at the end of any list
+  pub one-more : (xs : List A) (x : A) (old new : List A) (n : ℕ) → length xs ≡ n → n < length old → Filled xs old new
+      → Filled (xs ++ (x ∷ [])) old (set new n x)
+  one-more xs x old new n hn h p =
+      filled-more xs (x ∷ []) old new (set new n x) n hn (omega arith) p (set-splice new n x (omega (arith, p .long)))
+
   -- one word more
   pub word-more : (f : ℕ → A) (n : ℕ) (old new : List A) → n < length old → Filled (build n f) old new
       → Filled (build (n + 1) f) old (set new n (f n))
   unfolding build
-  word-more f n old new h p =
-      rw (add-one n)
-      (filled-more (build n f) (f n ∷ []) old new (set new n (f n)) n (length-build n f) (omega arith) p
-      (set-splice new n (f n) (omega (arith, p .long))))
+  word-more f n old new h p = rw (add-one n) (one-more (build n f) (f n) old new n (length-build n f) h p)
 
   -- a part more, lent from where the written start ends
   pub part-more : (xs ys old new : List A) (a d : ℕ) → length xs ≡ a → length ys ≡ d → a + d ≤ length old → Filled xs old new

@@ -3,3 +3,5 @@ pub mod Refusals
 pub mod Lists
 pub mod Filling
 pub mod Sums
+pub mod Search
+pub mod Bits

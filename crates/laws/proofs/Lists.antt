@@ -7,7 +7,7 @@ use native.Mathlib.Numerals.{add-one}
 use native.Mathlib.Omega.{arith}
 use native.Mathlib.Decide.{decLe, decLt}
 use lib.ListN.{length, getD, take, drop, length-append, length-take, length-drop, List·getD-append}
-use lib.Seq.{getD-at, getD-take, getD-drop, take-append-le, drop-append-le, drop-at, take-all}
+use lib.Seq.{getD-at, getD-take, getD-drop, take-append-le, drop-append-le, drop-at, take-all, ext-getD}
 use Rattle.laws.specs.Lists.{build, join, part, row}
 
 -- the last of n blocks of k ends inside them
@@ -117,3 +117,12 @@ unfolding join build
 join-build k zero f = rw (zero-mul k)
 join-build k (suc n) f =
     rw (suc-mul n k) (ap (λ xs. xs ++ build k (λ i. f (n * k + i))) (join-build k n f) ∙ sym (build-add (n * k) k f))
+
+-- a part, made index by index
+pub build-part : {A : Type 0} (at n : ℕ) (xs : List A) (d : A) → at + n ≤ length xs → build n (λ i. getD xs (at + i) d) ≡ part at n xs
+build-part at n xs d h =
+    let len = length-build n (λ i. getD xs (at + i) d) in
+    ext-getD d (build n (λ i. getD xs (at + i) d)) (part at n xs) (len ∙ sym (length-part at n xs h))
+    (λ i l.
+    let k : i < n = omega arith in
+    getD-build n (λ j. getD xs (at + j) d) i d k ∙ sym (getD-part at n xs i d k))

@@ -2,3 +2,5 @@
 pub mod Refusals
 pub mod Lists
 pub mod Sums
+pub mod Search
+pub mod Bits

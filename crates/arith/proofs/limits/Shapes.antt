@@ -6,7 +6,7 @@ use lib.Dec.{ltb, eqb}
 use borrow.Author.Tests.{ltb-false, eqb-true, not-false}
 use Rattle.laws.specs.Refusals.{outside}
 use Rattle.laws.proofs.Refusals.{neither, inside}
-use Rattle.arith.specs.Limits.{shapeBad}
+use Rattle.arith.specs.Limits.{shapeBad, matrixBad}
 
 pub record Shaped (rows k from to lent room : ℕ) : Type 0 where
   pub k-most : k ≤ 4096
@@ -23,4 +23,27 @@ shaped rows k from to lent room e =
       k-most = inside 1 4096 k (r .1) .1;
       whole = eqb-true lent (rows * from) (not-false (eqb lent (rows * from)) (q .1));
       roomy = ltb-false room (rows * to) (p .1);
+    }
+
+-- the same of a plain matrix
+pub record Plain (rows columns lent : ℕ) : Type 0 where
+  pub rows-least : 1 ≤ rows
+  pub rows-most : rows ≤ 4096
+  pub columns-least : 1 ≤ columns
+  pub columns-most : columns ≤ 4096
+  pub whole : lent ≡ rows * columns
+
+pub plain : (rows columns lent : ℕ) → matrixBad rows columns lent ≡ false → Plain rows columns lent
+unfolding matrixBad
+plain rows columns lent e =
+    let p = neither (outside 1 4096 rows || outside 1 4096 columns) (not (eqb lent (rows * columns))) e in
+    let q = neither (outside 1 4096 rows) (outside 1 4096 columns) (p .0) in
+    let r = inside 1 4096 rows (q .0) in
+    let c = inside 1 4096 columns (q .1) in
+    record {
+      rows-least = r .0;
+      rows-most = r .1;
+      columns-least = c .0;
+      columns-most = c .1;
+      whole = eqb-true lent (rows * columns) (not-false (eqb lent (rows * columns)) (p .1));
     }

@@ -1,0 +1,4 @@
+-- Laws of the sampler.
+pub mod Given
+pub mod Shortest
+pub mod Answers

@@ -1,0 +1,64 @@
+-- Document 01, "Ternary sampler".
+use Prim.Native.Nat.{ℕ, _*_}
+use mathlib.Core.Bool.{Bool, cond}
+use mathlib.Core.List.{List, [], _∷_}
+use lib.ListN.{length, take, drop}
+use lib.Dec.{ltb, leb}
+use Rattle.laws.specs.Refusals.{_⇒_, first, after, outside}
+use Rattle.laws.specs.Search.{lowest}
+use Rattle.arith.specs.declared.sampler.Sampled.{Sampled}
+use Rattle.arith.specs.declared.sampler.Sampled.the-variants.{Read, Shape, Interval, Short}
+
+-- a word up to I gives 0, I+1 to 2I gives 1, 2I+1 to 3I gives 2^32-1; more is skipped
+unfoldable pub accepted : ℕ → ℕ → Bool
+accepted interval x = leb x (3 * interval)
+
+unfoldable pub ternary : ℕ → ℕ → ℕ
+ternary interval x = cond (leb x interval) 0 (cond (leb x (2 * interval)) 1 4294967295)
+
+-- what the words give, in order, the skipped ones left out
+unfoldable pub given : ℕ → List ℕ → List ℕ
+given interval [] = []
+given interval (x ∷ xs) = cond (accepted interval x) (ternary interval x ∷ given interval xs) (given interval xs)
+
+-- the start of m words holds n accepted ones or more
+unfoldable pub holdsEnough : ℕ → ℕ → List ℕ → ℕ → Bool
+holdsEnough interval n words m = leb n (length (given interval (take m words)))
+
+-- the length of the shortest start of the words that holds enough, skipped ones included; all where none does
+unfoldable pub shortest : ℕ → ℕ → List ℕ → ℕ
+shortest interval n words = lowest (length words) (holdsEnough interval n words)
+
+-- 3: the words end before enough are accepted
+unfoldable pub tooFew : ℕ → ℕ → List ℕ → Bool
+tooFew interval n words = ltb (length (given interval words)) n
+
+abbrev pub sampledNumber : Sampled → ℕ
+sampledNumber (Read n) = 0
+sampledNumber Shape = 2
+sampledNumber Interval = 4
+sampledNumber Short = 3
+
+-- the count of words read that an answer gives; 0 on a refusal
+abbrev pub sampledRead : Sampled → ℕ
+sampledRead (Read n) = n
+sampledRead Shape = 0
+sampledRead Interval = 0
+sampledRead Short = 0
+
+-- what the sampler answers for an output of n words: its number, and the count of words read
+unfoldable pub sampleNumber : ℕ → ℕ → List ℕ → ℕ
+sampleNumber interval n words =
+    first (ltb 4096 n ⇒ 2 ∷ outside 1 1431655765 interval ⇒ 4 ∷ tooFew interval n words ⇒ 3 ∷ [])
+
+abbrev pub sampleRead : ℕ → ℕ → List ℕ → ℕ
+sampleRead interval n words = after (sampleNumber interval n words) (shortest interval n words) 0
+
+-- and what the output holds then: as many of the given values as it has words
+abbrev pub sampleAfter : ℕ → List ℕ → List ℕ → List ℕ
+sampleAfter interval words out =
+    after (sampleNumber interval (length out) words) (take (length out) (given interval words)) out
+
+-- the unread tail: the whole of the words on a refusal
+abbrev pub sampleTail : ℕ → ℕ → List ℕ → List ℕ
+sampleTail interval n words = drop (sampleRead interval n words) words

@@ -1,0 +1,114 @@
+// Document 01, "Ternary sampler": random words to 0, 1 and -1, of which 0 has one word more than the others.
+use super::limits;
+ghost use mathlib.Core.Path.{_≡_};
+ghost use Prim.Native.Nat.{_≤_};
+ghost use mathlib.Core.List.{[], _∷_};
+ghost use lib.ListN.{length};
+ghost use Rattle.laws.specs.Refusals.{first, _⇒_, after};
+ghost use Rattle.arith.specs.Sampler.{ternary, given, tooFew, shortest};
+ghost use Rattle.arith.specs.Sampler.{sampledNumber, sampledRead, sampleNumber, sampleRead, sampleAfter, sampleTail};
+
+// What the sampler answers.
+pub enum Sampled {
+    // 0: the output is written; the count of words read, skipped ones included.
+    Read(usize),
+    // 2: more than 4,096 are wanted.
+    Shape,
+    // 4: the interval is outside 1..=1431655765.
+    Interval,
+    // 3: the words end before enough are accepted.
+    Short,
+}
+
+// The value of an accepted word.
+fn value_of(interval: u32, x: u32) -> u32
+    requires { ⌜ interval ≤ 1431655765 ⌝ }
+    ensures { λ r. ⌜ r ≡ ternary interval x ⌝ }
+{
+    if x <= interval {
+        return 0;
+    }
+    if x <= 2 * interval {
+        return 1;
+    }
+    4294967295
+}
+
+// The shortest start of the words that holds enough, or 3. Nothing is written before this is known.
+fn count_read(interval: u32, wanted: usize, words: &[u32]) -> Sampled
+    requires { ⌜ interval ≤ 1431655765 ⌝ }
+    ensures { λ r. ⌜ sampledNumber r ≡ first (tooFew interval wanted (now (words .entry)) ⇒ 3 ∷ []) ⌝ }
+    ensures { λ r. ⌜ sampledRead r ≡ after (sampledNumber r) (shortest interval wanted (now (words .entry))) 0 ⌝ }
+{
+    let greatest = 3 * interval;
+    let mut got: usize = 0;
+    let mut read: usize = 0;
+    while got < wanted {
+        if read == words.len() {
+            return Sampled::Short;
+        }
+        if words[read] <= greatest {
+            got += 1;
+        }
+        read += 1;
+    }
+    Sampled::Read(read)
+}
+
+// The whole answer, known before anything is written: 2, 4, 3 in this order, or the count of words to read.
+fn plan(interval: u32, wanted: usize, words: &[u32]) -> Sampled
+    ensures { λ r. ⌜ sampledNumber r ≡ sampleNumber interval wanted (now (words .entry)) ⌝ }
+    ensures { λ r. ⌜ sampledRead r ≡ sampleRead interval wanted (now (words .entry)) ⌝ }
+{
+    if wanted > 4096 {
+        return Sampled::Shape;
+    }
+    if limits::out_of(1, 1431655765, interval as usize) {
+        return Sampled::Interval;
+    }
+    count_read(interval, wanted, words)
+}
+
+// Writes the value of each accepted word.
+fn fill(interval: u32, words: &[u32], out: &mut [u32])
+    requires { ⌜ interval ≤ 1431655765 ⌝ }
+    requires { ⌜ length (given interval (now words)) ≡ length (now out) ⌝ }
+    ensures { λ _. ⌜ now (out .exit) ≡ given interval (now (words .entry)) ⌝ }
+{
+    let greatest = 3 * interval;
+    let mut put: usize = 0;
+    let mut read: usize = 0;
+    while read < words.len() {
+        let x = words[read];
+        if x <= greatest {
+            out[put] = value_of(interval, x);
+            put += 1;
+        }
+        read += 1;
+    }
+}
+
+// Fills `out` from the words.
+pub fn sample_from_uniform_ternary_dist(interval: u32, words: &[u32], out: &mut [u32]) -> Sampled
+    ensures { λ r. ⌜ sampledNumber r ≡ sampleNumber interval (length (now (out .entry))) (now (words .entry)) ⌝ }
+    ensures { λ r. ⌜ sampledRead r ≡ sampleRead interval (length (now (out .entry))) (now (words .entry)) ⌝ }
+    ensures { λ _. ⌜ now (out .exit) ≡ sampleAfter interval (now (words .entry)) (now (out .entry)) ⌝ }
+{
+    let answer = plan(interval, out.len(), words);
+    let Sampled::Read(read) = answer else {
+        return answer;
+    };
+    fill(interval, &words[..read], out);
+    Sampled::Read(read)
+}
+
+// The same work; the unread tail, a part of the words alone, comes back.
+pub fn sample_and_return_unread<'w>(interval: u32, words: &'w [u32], out: &mut [u32]) -> &'w [u32]
+    ensures { λ r. ⌜ now r ≡ sampleTail interval (length (now (out .entry))) (now (words .entry)) ⌝ }
+    ensures { λ _. ⌜ now (out .exit) ≡ sampleAfter interval (now (words .entry)) (now (out .entry)) ⌝ }
+{
+    let Sampled::Read(read) = sample_from_uniform_ternary_dist(interval, words, out) else {
+        return words;
+    };
+    &words[read..]
+}
