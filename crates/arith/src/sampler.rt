@@ -42,17 +42,17 @@ fn count_read(interval: u32, wanted: usize, words: &[u32]) -> Sampled
 {
     let greatest = 3 * interval;
     let mut got: usize = 0;
-    let mut read: usize = 0;
+    let mut seen: usize = 0;
     while got < wanted {
-        if read == words.len() {
+        if seen == words.len() {
             return Sampled::Short;
         }
-        if words[read] <= greatest {
+        if words[seen] <= greatest {
             got += 1;
         }
-        read += 1;
+        seen += 1;
     }
-    Sampled::Read(read)
+    Sampled::Read(seen)
 }
 
 // The whole answer, known before anything is written: 2, 4, 3 in this order, or the count of words to read.

@@ -1,8 +1,11 @@
 // Document 01's cases, run on the proved library. Each row shows what was lent, the number that was answered (0 is
 // success) and the output at exit. Outputs are lent with 7 in every word, so that what stays as it was is seen.
+mod codec;
+mod lend;
 mod packing;
 mod print;
 mod product;
+mod sampler;
 
 fn main() {
     packing::worked();
@@ -11,4 +14,8 @@ fn main() {
     packing::unpack_limits();
     product::worked();
     product::limits();
+    sampler::worked();
+    sampler::limits();
+    codec::worked();
+    codec::limits();
 }

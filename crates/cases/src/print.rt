@@ -1,4 +1,6 @@
 // Text and numbers on standard output.
+use super::lend;
+
 pub(crate) fn text(s: &[u8]) {
     io::write_all(libc::STDOUT_FILENO, s);
 }
@@ -29,4 +31,22 @@ pub(crate) fn list(xs: &[u32]) {
         i += 1;
     }
     text(b"]");
+}
+
+fn widen(xs: &[u8], out: &mut [u32]) {
+    let mut i: usize = 0;
+    while i < xs.len() {
+        if out.len() <= i {
+            return;
+        }
+        out[i] = xs[i] as u32;
+        i += 1;
+    }
+}
+
+// Bytes, as a list.
+pub(crate) fn bytes(xs: &[u8]) {
+    let mut wide = [0; 16397];
+    widen(xs, &mut wide);
+    list(lend::first(&wide, xs.len()));
 }

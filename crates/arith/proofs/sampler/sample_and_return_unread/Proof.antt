@@ -10,14 +10,6 @@ use Rattle.arith.proofs.sampler.Answers.{refusing, unread, read-within}
 use Rattle.arith.proofs.sampler.sample_and_return_unread.Statement.{statement}
 use Rattle.arith.proofs.sampler.sample_and_return_unread.Tie as tie
 
--- the tail starts inside the words
-inside : (c : tie.After-known-told)
-    → c .before .read .given .0 .0 ≤ length (c .before .before .before .before .before .before .before .before .before .args .words .now)
-inside c =
-    let a = c .before .before .before .before .before .before .before .before .before .args in
-    let p = c .before .before .before .before .before .sample-from-uniform-ternary-dist .ensures in
-    read-within (a .interval) (length (a .out .now)) (a .words .now) _ _ (c .before .read .given .1) (p .0) (p .1 .0)
-
 sample-from-uniform-ternary-dist-requires : tie.Need-sample-from-uniform-ternary-dist-requires
 sample-from-uniform-ternary-dist-requires c κs = search needs
 
@@ -33,6 +25,14 @@ returns c =
     let p = c .before .before .before .sample-from-uniform-ternary-dist in
     let e = unread (a .interval) (length (a .out .now)) (a .words .now) (rw (p .ensures .0) at (refusing (p .result) (c .match .keys2))) in
     (ap (λ (n : ℕ). drop n (a .words .now)) e, p .ensures .1 .1)
+
+-- the tail starts inside the words
+inside : (c : tie.After-known-told)
+    → c .before .read .given .0 .0 ≤ length (c .before .before .before .before .before .before .before .before .before .args .words .now)
+inside c =
+    let a = c .before .before .before .before .before .before .before .before .before .args in
+    let p = c .before .before .before .before .before .sample-from-uniform-ternary-dist .ensures in
+    read-within (a .interval) (length (a .out .now)) (a .words .now) _ _ (c .before .read .given .1) (p .0) (p .1 .0)
 
 mul-result : tie.Need-mul-result
 mul-result c = omega (arith, inside c)
