@@ -2,6 +2,8 @@
 pub mod Limits
 pub mod Packing
 pub mod Product
+pub mod Matrix
 pub mod Sampler
+pub mod Bytes
 pub mod Codec
 pub mod Worked

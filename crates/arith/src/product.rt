@@ -10,7 +10,7 @@ ghost use Rattle.arith.specs.Packing.{wordsOf, Slotted, packedNumber};
 ghost use Rattle.arith.specs.Product.{slotSum, entryOf, product, operandsBad, productNumber, productAfter};
 
 // The low 32 bits of a product.
-fn wrapping_mul(x: u32, y: u32) -> u32
+pub(crate) fn wrapping_mul(x: u32, y: u32) -> u32
     ensures { λ r. ⌜ r ≡ (x * y) % 2 ^ 32 ⌝ }
 {
     let wide = x as u64 * y as u64;

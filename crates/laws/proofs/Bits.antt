@@ -2,19 +2,20 @@
 use mathlib.Core.Path.{_≡_, refl, sym, ap, _∙_}
 use mathlib.Core.List.{List}
 use Prim.Native.Nat.{ℕ, zero, suc, _+_, _*_, _-_, _/_, _%_, _^_, _<_, _≤_}
-use native.Mathlib.Nat.{add-comm, zero-add, mod-lt, mod-one, mod-eq-of-lt, div-eq-of-lt, div-lt-iff-lt-mul, div-add-mod', add-mul-div-right, add-mul-mod-self-right, pow-succ', not-suc-le-zero}
+use native.Mathlib.Nat.{add-comm, zero-add, mod-lt, mod-eq-of-lt, div-eq-of-lt, div-lt-iff-lt-mul, div-add-mod', add-mul-div-right, add-mul-mod-self-right, pow-succ', not-suc-le-zero}
 use native.Mathlib.Numerals.{add-one}
 use native.Mathlib.Omega.{arith}
 use native.Mathlib.Decide.{decLt}
 use lib.Arith.{digits-lt, digits-div, digits-mod}
 use lib.Bits.{bitOr, or-shifted-r}
 use lib.ListN.{length, getD}
-use lib.Pow.{pow-pos, pow-add, shl-exact, mod-pow-add}
+use lib.Pow.{pow-pos, pow-add, shl-exact}
 use lib.Seq.{ext-getD}
 use Rattle.laws.specs.Sums.{sum}
 use Rattle.laws.specs.Bits.{bitOf, gathered, carried}
 use Rattle.laws.proofs.Lists.{room, length-build, getD-build, build-ext}
 use Rattle.laws.proofs.Sums.{sum-ext}
+use Rattle.laws.proofs.Digits.{low-digits}
 
 pub bit-lt : (w : ℕ) (xs : List ℕ) (k : ℕ) → bitOf w xs k < 2
 unfolding bitOf
@@ -89,23 +90,13 @@ module _ (f : ℕ → ℕ) (small : (k : ℕ) → f k < 2) (at : ℕ) where
           ∙ mod-eq-of-lt (small (at + n))
           ∙ ap (λ (m : ℕ). f (at + m)) e
 
--- the low n bits of a number, summed
-low-bits : (x n : ℕ) → sum n (λ i. x / 2 ^ i % 2 * 2 ^ i) ≡ x % 2 ^ n
-unfolding sum
-low-bits x zero = sym (mod-one x)
-low-bits x (suc n) =
-    ap (λ (s : ℕ). s + x / 2 ^ n % 2 * 2 ^ n) (low-bits x n)
-    ∙ add-comm (x % 2 ^ n) (x / 2 ^ n % 2 * 2 ^ n)
-    ∙ sym (mod-pow-add x 1 n)
-    ∙ ap (λ (m : ℕ). x % 2 ^ m) (add-comm 1 n ∙ add-one n)
-
 -- gathering the bits of a number gives the number
 pub gathered-bits : (w : ℕ) (xs : List ℕ) (j : ℕ) → getD xs j 0 < 2 ^ w → gathered w (bitOf w xs) (j * w) ≡ getD xs j 0
 unfolding gathered
 gathered-bits w xs j h =
     let x : ℕ = getD xs j 0 in
     sum-ext w (λ i. bitOf w xs (j * w + i) * 2 ^ i) (λ i. x / 2 ^ i % 2 * 2 ^ i) (λ i l. ap (λ (b : ℕ). b * 2 ^ i) (bit-at w xs j i l))
-    ∙ low-bits x w
+    ∙ low-digits 2 x w (omega arith)
     ∙ mod-eq-of-lt h
 
 -- Numbers of w bits each.

@@ -2,6 +2,7 @@
 use mathlib.Core.Path.{_≡_, refl, sym, ap, ap₂, _∙_}
 use mathlib.Core.List.{List, [], _∷_, _++_, append-assoc, append-nil}
 use Prim.Native.Nat.{ℕ, _+_, _*_, _-_, _<_, _≤_}
+use native.Mathlib.Nat.{zero-add}
 use native.Mathlib.Numerals.{add-one}
 use native.Mathlib.Omega.{arith}
 use lib.ListN.{length, set, take, drop, length-append, length-drop, drop-of-length-le}
@@ -16,10 +17,17 @@ unfolding splice
 set-splice xs n x h = set-split xs n x h ∙ ap (λ (i : ℕ). take n xs ++ (x ∷ drop i xs)) (sym (add-one n))
 
 -- a part that was lent and came back is a splice
-put-splice : {A : Type 0} (a d : ℕ) (xs ys : List A) → d ≡ length ys → putMid a d xs ys ≡ splice a ys xs
+pub put-splice : {A : Type 0} (a d : ℕ) (xs ys : List A) → d ≡ length ys → putMid a d xs ys ≡ splice a ys xs
 unfolding splice
 put-splice a d xs ys h =
     ap (λ l. take a xs ++ (ys ++ l)) (drop-drop d a xs ∙ ap (λ (i : ℕ). drop (a + i) xs) h)
+
+-- the start of a buffer, lent and come back
+pub front-laid : {A : Type 0} (n : ℕ) (xs ys : List A) → n ≡ length ys → putMid 0 (n - 0) xs ys ≡ laid ys xs
+unfolding laid splice
+front-laid n xs ys h =
+    let e : n - 0 ≡ n = omega arith in
+    rw e (put-splice 0 n xs ys h ∙ ap (λ (i : ℕ). ys ++ drop i xs) (zero-add (length ys)))
 
 -- xs stands at the start of a buffer, whose rest is as it was
 pub record Filled {A : Type 0} (xs old new : List A) : Type 0 where

@@ -2,6 +2,9 @@
 pub mod Refusals
 pub mod Lists
 pub mod Filling
+pub mod Splice
+pub mod Below
 pub mod Sums
+pub mod Digits
 pub mod Search
 pub mod Bits

@@ -7,7 +7,7 @@ use native.Mathlib.Numerals.{add-one}
 use native.Mathlib.Omega.{arith}
 use native.Mathlib.Decide.{decLe, decLt}
 use lib.ListN.{length, getD, take, drop, length-append, length-take, length-drop, List·getD-append}
-use lib.Seq.{getD-at, getD-take, getD-drop, take-append-le, drop-append-le, drop-at, take-all, ext-getD}
+use lib.Seq.{getD-at, getD-take, getD-drop, ext-getD, take-append-le, drop-append-le, drop-at, take-all}
 use Rattle.laws.specs.Lists.{build, join, part, row}
 
 -- the last of n blocks of k ends inside them
@@ -63,6 +63,13 @@ build-ext zero f g h = refl
 build-ext (suc n) f g h =
     ap₂ (λ xs x. xs ++ (x ∷ [])) (build-ext n f g (λ i l. h i (omega arith))) (h n (omega arith))
 
+-- a list, element by element
+pub build-getD : {A : Type 0} (xs : List A) (d : A) → build (length xs) (λ i. getD xs i d) ≡ xs
+build-getD xs d =
+    let n = length-build (length xs) (λ i. getD xs i d) in
+    ext-getD d (build (length xs) (λ i. getD xs i d)) xs n
+    (λ i h. getD-build (length xs) (λ i. getD xs i d) i d (rw n at h))
+
 -- m elements, and then n more
 pub build-add : {A : Type 0} (m n : ℕ) (f : ℕ → A) → build (m + n) f ≡ build m f ++ build n (λ i. f (m + i))
 unfolding build
@@ -76,6 +83,14 @@ pub join-ext : {A : Type 0} (n : ℕ) (f g : ℕ → List A) → ((j : ℕ) → 
 unfolding join
 join-ext zero f g h = refl
 join-ext (suc n) f g h = ap₂ _++_ (join-ext n f g (λ j l. h j (omega arith))) (h n (omega arith))
+
+-- m blocks, and then n more
+pub join-add : {A : Type 0} (m n : ℕ) (f : ℕ → List A) → join (m + n) f ≡ join m f ++ join n (λ i. f (m + i))
+unfolding join
+join-add m zero f = rw add-zero (sym (append-nil (join m f)))
+join-add m (suc n) f =
+    rw add-suc
+    (ap (λ xs. xs ++ f (m + n)) (join-add m n f) ∙ append-assoc (join m f) (join n (λ i. f (m + i))) (f (m + n)))
 
 -- n blocks, each of k elements
 module _ {A : Type 0} (k : ℕ) (f : ℕ → List A) where

@@ -9,7 +9,7 @@ use native.Mathlib.Decide.{decLt}
 use Rattle.laws.specs.Search.{some, lowest}
 use Rattle.laws.proofs.Refusals.{neither}
 
-or-true : (t : Bool) → (t || true) ≡ true
+pub or-true : (t : Bool) → (t || true) ≡ true
 or-true true = refl
 or-true false = refl
 

@@ -26,16 +26,16 @@ shaped rows k from to lent room e =
     }
 
 -- the same of a plain matrix
-pub record Plain (rows columns lent : ℕ) : Type 0 where
+pub record Sized (rows columns lent : ℕ) : Type 0 where
   pub rows-least : 1 ≤ rows
   pub rows-most : rows ≤ 4096
   pub columns-least : 1 ≤ columns
   pub columns-most : columns ≤ 4096
   pub whole : lent ≡ rows * columns
 
-pub plain : (rows columns lent : ℕ) → matrixBad rows columns lent ≡ false → Plain rows columns lent
+pub sized : (rows columns lent : ℕ) → matrixBad rows columns lent ≡ false → Sized rows columns lent
 unfolding matrixBad
-plain rows columns lent e =
+sized rows columns lent e =
     let p = neither (outside 1 4096 rows || outside 1 4096 columns) (not (eqb lent (rows * columns))) e in
     let q = neither (outside 1 4096 rows) (outside 1 4096 columns) (p .0) in
     let r = inside 1 4096 rows (q .0) in

@@ -1,0 +1,4 @@
+-- Laws of the matrix bytes.
+pub mod Words
+pub mod Answers
+pub mod RoundTrip

@@ -1,0 +1,4 @@
+-- Laws of the plain product and the transpose.
+pub mod Cells
+pub mod Associates
+pub mod Answers
