@@ -1,0 +1,62 @@
+-- The builder's law for the entry: after success the words that were lent hold what each key's rows and masks need.
+use mathlib.Core.Path.{_≡_, sym, ap, _∙_}
+use mathlib.Core.Bool.{false}
+use mathlib.Core.List.{List}
+use Prim.Native.Nat.{ℕ, _+_, _*_, _-_, _%_, _^_, _<_}
+use native.Mathlib.Omega.{arith}
+use lib.Arith.{digits-lt}
+use lib.Dec.{ltb}
+use lib.ListN.{length, getD, drop, List·getD-append}
+use lib.Pow.{lt-of-le-ones}
+use borrow.Author.Tests.{ltb-false}
+use Rattle.laws.specs.Lists.{row, laid}
+use Rattle.laws.proofs.Lists.{room}
+use Rattle.laws.proofs.Refusals.{written}
+use Rattle.laws.proofs.Search.{none-holds}
+use Rattle.laws.proofs.Sums.{sum-ext}
+use Rattle.arith.specs.Limits.{anyAbove, elementsBad}
+use Rattle.builder.specs.Keys.{Keys, lentKeys}
+use Rattle.builder.specs.Placement.{placementBad}
+use Rattle.builder.specs.Database.{word, rowsSum, database, buildNumber, buildAfter}
+use Rattle.builder.proofs.placement.Rule.{below, each-fine}
+use Rattle.builder.proofs.database.Answers.{accepted}
+use Rattle.builder.proofs.database.Law.{length-database, key-row}
+
+-- 17 was not given: each element is below 2^b
+fits : (b : ℕ) (xs : List ℕ) → elementsBad b xs ≡ false → (i : ℕ) → i < length xs → getD xs i 0 < 2 ^ b
+unfolding anyAbove
+fits b xs h i l =
+    lt-of-le-ones b (ltb-false (2 ^ b - 1) (getD xs i 0) (none-holds (λ k. ltb (2 ^ b - 1) (getD xs k 0)) (length xs) i h l))
+
+-- what lies behind the database does not count
+module _ (b r columns : ℕ) (ks : Keys) (count : ℕ) (rule : placementBad r ks count ≡ false) (held : List ℕ) where
+  kept : (i : ℕ) → i < count → (j : ℕ) → j < columns
+      → rowsSum columns (laid (database b r columns ks count) held) (ks .places i) j
+      ≡ rowsSum columns (database b r columns ks count) (ks .places i) j
+  unfolding laid
+  kept i h j l =
+      let d = database b r columns ks count in
+      let ps = ks .places i in
+      sum-ext (length ps) (λ s. word columns (laid d held) (getD ps s 0) j) (λ s. word columns d (getD ps s 0) j)
+      (λ s m. List·getD-append d (drop (length d) held) 0 (getD ps s 0 * columns + j)
+      (omega (
+        arith,
+        length-database b r columns ks count rule,
+        digits-lt (below r ps (each-fine r ks count rule i h .placed) s m) l,
+      )))
+
+pub built-row : (b r columns count : ℕ) (rows masks positions targets held : List ℕ)
+    → buildNumber b r columns count rows masks positions targets (length held) ≡ 0
+    → (i : ℕ) → i < count → (j : ℕ) → j < columns
+    → (rowsSum columns (buildAfter b r columns count rows masks positions targets held) (row 4 positions i) j
+    + getD masks (i * columns + j) 0) % 2 ^ b
+    ≡ getD rows (i * columns + j) 0
+built-row b r columns count rows masks positions targets held z i h j l =
+    let ks = lentKeys columns rows masks positions targets in
+    let g = accepted b r columns count rows masks positions targets (length held) z in
+    let d = database b r columns ks count in
+    let e : buildAfter b r columns count rows masks positions targets held ≡ laid d held = sym (written _ (laid d held) held z) in
+    let small = fits b rows (g .elements) (i * columns + j) (omega (arith, room i count columns h, g .shape .rows-whole)) in
+    rw e
+    (ap (λ (x : ℕ). (x + getD masks (i * columns + j) 0) % 2 ^ b) (kept b r columns ks count (g .placement) held i h j l)
+    ∙ key-row b r columns ks count (g .placement) i h j l small)
