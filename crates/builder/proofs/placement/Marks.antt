@@ -1,6 +1,6 @@
 -- Marks at the positions seen: what one more makes of them.
 use mathlib.Core.Path.{_≡_, refl, sym, ap, _∙_}
-use mathlib.Core.Bool.{Bool, true, false, _||_}
+use mathlib.Core.Bool.{Bool, true, false, _||_, or-true}
 use mathlib.Core.List.{List}
 use Prim.Native.Nat.{ℕ, zero, suc, _+_, _<_}
 use native.Mathlib.Numerals.{add-one}
@@ -11,7 +11,6 @@ use lib.ListN.{length, getD, set, replicate, length-set}
 use lib.Seq.{getD-set-same, getD-set-other}
 use borrow.Author.Tests.{eq-eqb, ne-eqb}
 use Rattle.laws.specs.Search.{some}
-use Rattle.laws.proofs.Search.{or-true}
 use Rattle.builder.specs.Keys.{Keys, target}
 use Rattle.builder.specs.Placement.{among, positionsBad, seenBefore, keyBad}
 

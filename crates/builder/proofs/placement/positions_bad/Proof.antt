@@ -1,13 +1,13 @@
 -- None of the first s positions is r or more, and none equals one before it.
 use mathlib.Core.Path.{_≡_, sym, ap₂, _∙_}
-use mathlib.Core.Bool.{true, false, _||_}
+use mathlib.Core.Bool.{true, false, _||_, or-true}
 use Prim.Native.Nat.{_-_, _≤_}
 use native.Mathlib.Omega.{arith}
 use lib.ListN.{length}
 use borrow.Author.Needs.{needs}
 use borrow.Author.Tests.{le-leb, lt-leb}
 use Rattle.laws.specs.Search.{some}
-use Rattle.laws.proofs.Search.{some-none, some-more, some-holds, or-true}
+use Rattle.laws.proofs.Search.{some-none, some-more, some-holds}
 use Rattle.builder.specs.Placement.{positionsBad}
 use Rattle.builder.proofs.placement.Rule.{far, twice}
 use Rattle.builder.proofs.placement.positions_bad.Statement.{statement}
