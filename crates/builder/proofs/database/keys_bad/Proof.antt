@@ -50,25 +50,55 @@ mul-if4 c = omega (arith, fits (c .before) (c .before .before .before .before .b
 
 returns-4 : tie.Need-returns-4
 unfolding keysBad
-returns-4 c = simp (r-in (c .before .before .before .before), columns-in (c .before .before), le-ltb _ _ (c .before .if3 .left), ne-eqb _ _ (c .if4 .taken))
+returns-4 c =
+    simp (
+      r-in (c .before .before .before .before),
+      columns-in (c .before .before),
+      le-ltb _ _ (c .before .if3 .left),
+      ne-eqb _ _ (c .if4 .taken),
+    )
 
 mul-if5 : tie.Need-mul-if5
 mul-if5 c = search needs
 
 returns-5 : tie.Need-returns-5
 unfolding keysBad
-returns-5 c = simp (r-in (c .before .before .before .before .before), columns-in (c .before .before .before), le-ltb _ _ (c .before .before .if3 .left), eq-eqb _ _ (c .before .if4 .left), ne-eqb _ _ (c .if5 .taken))
+returns-5 c =
+    simp (
+      r-in (c .before .before .before .before .before),
+      columns-in (c .before .before .before),
+      le-ltb _ _ (c .before .before .if3 .left),
+      eq-eqb _ _ (c .before .if4 .left),
+      ne-eqb _ _ (c .if5 .taken),
+    )
 
 mul-if6 : tie.Need-mul-if6
 mul-if6 c = omega (arith, inside 1 4096 (c .before .before .before .before .before .before .before .args .r) (r-in (c .before .before .before .before .before)) .1)
 
 returns-6 : tie.Need-returns-6
 unfolding keysBad
-returns-6 c = simp (r-in (c .before .before .before .before .before .before), columns-in (c .before .before .before .before), le-ltb _ _ (c .before .before .before .if3 .left), eq-eqb _ _ (c .before .before .if4 .left), eq-eqb _ _ (c .before .if5 .left), ne-eqb _ _ (c .if6 .taken))
+returns-6 c =
+    simp (
+      r-in (c .before .before .before .before .before .before),
+      columns-in (c .before .before .before .before),
+      le-ltb _ _ (c .before .before .before .if3 .left),
+      eq-eqb _ _ (c .before .before .if4 .left),
+      eq-eqb _ _ (c .before .if5 .left),
+      ne-eqb _ _ (c .if6 .taken),
+    )
 
 returns-7 : tie.Need-returns-7
 unfolding keysBad
-returns-7 c = simp (r-in (c .before .before .before .before .before .before .before), columns-in (c .before .before .before .before .before), le-ltb _ _ (c .before .before .before .before .if3 .left), eq-eqb _ _ (c .before .before .before .if4 .left), eq-eqb _ _ (c .before .before .if5 .left), eq-eqb _ _ (c .before .if6 .left), ne-eqb _ _ (c .if7 .taken))
+returns-7 c =
+    simp (
+      r-in (c .before .before .before .before .before .before .before),
+      columns-in (c .before .before .before .before .before),
+      le-ltb _ _ (c .before .before .before .before .if3 .left),
+      eq-eqb _ _ (c .before .before .before .if4 .left),
+      eq-eqb _ _ (c .before .before .if5 .left),
+      eq-eqb _ _ (c .before .if6 .left),
+      ne-eqb _ _ (c .if7 .taken),
+    )
 
 mul-result : tie.Need-mul-result
 mul-result c =
@@ -77,7 +107,16 @@ mul-result c =
 
 returns-8 : tie.Need-returns-8
 unfolding keysBad
-returns-8 c = simp (r-in (c .before .before .before .before .before .before .before), columns-in (c .before .before .before .before .before), le-ltb _ _ (c .before .before .before .before .if3 .left), eq-eqb _ _ (c .before .before .before .if4 .left), eq-eqb _ _ (c .before .before .if5 .left), eq-eqb _ _ (c .before .if6 .left), eq-eqb _ _ (c .if7 .left))
+returns-8 c =
+    simp (
+      r-in (c .before .before .before .before .before .before .before),
+      columns-in (c .before .before .before .before .before),
+      le-ltb _ _ (c .before .before .before .before .if3 .left),
+      eq-eqb _ _ (c .before .before .before .if4 .left),
+      eq-eqb _ _ (c .before .before .if5 .left),
+      eq-eqb _ _ (c .before .if6 .left),
+      eq-eqb _ _ (c .if7 .left),
+    )
 
 pub keys-bad-spec : {M : Type 1} → statement M
 keys-bad-spec =
