@@ -8,14 +8,11 @@ use Rattle.laws.specs.Refusals.{_⇒_, first, after, outside, widthBad}
 use Rattle.laws.specs.Lists.{build, splice, laid}
 use Rattle.laws.specs.Sums.{sum}
 use Rattle.arith.specs.Limits.{elementsBad}
+use Rattle.arith.specs.Matrix.{cell}
 use Rattle.builder.specs.Keys.{Keys, target, lentKeys}
 use Rattle.builder.specs.Placement.{placementBad}
 use Rattle.builder.specs.declared.database.Built.{Built}
 use Rattle.builder.specs.declared.database.Built.the-variants.{Done, Width, Shape, Element, Placement}
-
--- word j of row q of a database of C columns
-abbrev pub word : ℕ → List ℕ → ℕ → ℕ → ℕ
-word columns d q j = getD d (q * columns + j) 0
 
 -- a less c, modulo 2^b
 unfoldable pub less : ℕ → ℕ → ℕ → ℕ
@@ -23,10 +20,10 @@ less b a c = (a + (2 ^ b - c % 2 ^ b)) % 2 ^ b
 
 -- column j of the rows at the positions, summed; and of all but the one at `index`
 abbrev pub rowsSum : ℕ → List ℕ → List ℕ → ℕ → ℕ
-rowsSum columns d ps j = sum (length ps) (λ s. word columns d (getD ps s 0) j)
+rowsSum columns d ps j = sum (length ps) (λ s. cell columns d (getD ps s 0) j)
 
 abbrev pub othersSum : ℕ → List ℕ → List ℕ → ℕ → ℕ → ℕ
-othersSum columns d ps index j = sum (length ps) (λ s. cond (eqb s index) 0 (word columns d (getD ps s 0) j))
+othersSum columns d ps index j = sum (length ps) (λ s. cond (eqb s index) 0 (cell columns d (getD ps s 0) j))
 
 -- key i's target row: its row less the other rows less the masks, modulo 2^b
 abbrev pub targetRow : ℕ → ℕ → Keys → List ℕ → ℕ → List ℕ

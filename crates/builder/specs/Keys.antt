@@ -1,8 +1,9 @@
 -- Keys in their writing order, with positions of any number: four for each today.
-use Prim.Native.Nat.{ℕ, _+_, _*_}
+use Prim.Native.Nat.{ℕ}
 use mathlib.Core.List.{List}
 use lib.ListN.{getD}
 use Rattle.laws.specs.Lists.{row}
+use Rattle.arith.specs.Matrix.{cell}
 
 -- by key: element j of its row, mask j, its positions, and which of them is the target's
 pub record Keys : Type 0 where
@@ -18,8 +19,8 @@ target ks i = getD (ks .places i) (ks .index i) 0
 -- keys lent flat, key after key: rows and masks of C words, four positions, one index
 abbrev pub lentKeys : ℕ → List ℕ → List ℕ → List ℕ → List ℕ → Keys
 lentKeys columns rows masks positions targets = record {
-  element = λ i j. getD rows (i * columns + j) 0;
-  mask = λ i j. getD masks (i * columns + j) 0;
+  element = λ i j. cell columns rows i j;
+  mask = λ i j. cell columns masks i j;
   places = row 4 positions;
   index = λ i. getD targets i 0;
 }

@@ -10,7 +10,8 @@ ghost use lib.ListN.{length, getD, replicate};
 ghost use Rattle.laws.specs.Lists.{build, splice};
 ghost use Rattle.builder.specs.Keys.{lentKeys};
 ghost use Rattle.builder.specs.Placement.{placementBad};
-ghost use Rattle.builder.specs.Database.{word, less, othersSum, database, keysBad};
+ghost use Rattle.builder.specs.Database.{less, othersSum, database, keysBad};
+ghost use Rattle.arith.specs.Matrix.{cell};
 ghost use Rattle.builder.specs.Database.{builtNumber, buildNumber, buildAfter};
 
 // What the builder answers.
@@ -124,7 +125,7 @@ fn zero(words: &mut [u32])
 // Word j of the row at position s, or 0 where that is the target.
 fn other(columns: usize, ps: [u32; 4], index: u32, j: usize, s: usize, words: &[u32]) -> u32
     requires { ⌜ (s < 4) × (j < columns) × (getD ps s 0 * columns + columns ≤ length (now words)) ⌝ }
-    ensures { λ x. ⌜ x ≡ cond (eqb s index) 0 (word columns (now (words .entry)) (getD ps s 0) j) ⌝ }
+    ensures { λ x. ⌜ x ≡ cond (eqb s index) 0 (cell columns (now (words .entry)) (getD ps s 0) j) ⌝ }
 {
     if s == index as usize {
         return 0;

@@ -16,9 +16,10 @@ use Rattle.laws.proofs.Search.{none-holds}
 use Rattle.laws.proofs.Splice.{length-splice, row-same, row-other}
 use Rattle.laws.proofs.Sums.{sum-ext, sum-apart, cong-eq, cong-wrap, cong-add, cong-trans, mod-in}
 use Rattle.laws.proofs.Below.{Below, below-at, below-replicate, below-build, below-splice}
+use Rattle.arith.specs.Matrix.{cell}
 use Rattle.builder.specs.Keys.{Keys, target}
 use Rattle.builder.specs.Placement.{among, seenBefore, placementBad}
-use Rattle.builder.specs.Database.{word, less, rowsSum, othersSum, targetRow, database}
+use Rattle.builder.specs.Database.{less, rowsSum, othersSum, targetRow, database}
 use Rattle.builder.proofs.placement.Rule.{below, distinct, Fine, each-fine}
 
 -- what was taken off, added again
@@ -83,14 +84,14 @@ module _ (b r columns : ℕ) (ks : Keys) (count : ℕ) (rule : placementBad r ks
     fits : target ks n * columns + columns ≤ length (database b r columns ks n)
     fits = omega (arith, row-in n h, sized n (omega arith))
 
-    wrote : word columns (database b r columns ks (suc n)) (target ks n) j ≡ fresh b r columns ks n j
+    wrote : cell columns (database b r columns ks (suc n)) (target ks n) j ≡ fresh b r columns ks n j
     unfolding database
     wrote =
         row-same columns (target ks n) (build columns (fresh b r columns ks n)) (database b r columns ks n) fits
         (length-build columns (fresh b r columns ks n)) 0 j l
         ∙ getD-build columns (fresh b r columns ks n) j 0 l
 
-    left : (q : ℕ) → ¬ (q ≡ target ks n) → word columns (database b r columns ks (suc n)) q j ≡ word columns (database b r columns ks n) q j
+    left : (q : ℕ) → ¬ (q ≡ target ks n) → cell columns (database b r columns ks (suc n)) q j ≡ cell columns (database b r columns ks n) q j
     unfolding database
     left q ne =
         row-other columns (target ks n) (build columns (fresh b r columns ks n)) (database b r columns ks n) fits
@@ -106,8 +107,8 @@ module _ (b r columns : ℕ) (ks : Keys) (count : ℕ) (rule : placementBad r ks
       (none-holds (λ k. among (ks .places k) (target ks n)) n i (good n h .fresh) l) m)
 
   stays : (i s j : ℕ) → s < length (ks .places i) → j < columns → (n : ℕ) → i < n → n ≤ count
-      → word columns (database b r columns ks n) (getD (ks .places i) s 0) j
-      ≡ word columns (database b r columns ks (suc i)) (getD (ks .places i) s 0) j
+      → cell columns (database b r columns ks n) (getD (ks .places i) s 0) j
+      ≡ cell columns (database b r columns ks (suc i)) (getD (ks .places i) s 0) j
   stays i s j m l zero p h = absurd (not-suc-le-zero p)
   stays i s j m l (suc n) p h =
       elim (decLt i n) [
@@ -116,8 +117,8 @@ module _ (b r columns : ℕ) (ks : Keys) (count : ℕ) (rule : placementBad r ks
       ]
     where
       same : n ≡ i
-          → word columns (database b r columns ks (suc n)) (getD (ks .places i) s 0) j
-          ≡ word columns (database b r columns ks (suc i)) (getD (ks .places i) s 0) j
+          → cell columns (database b r columns ks (suc n)) (getD (ks .places i) s 0) j
+          ≡ cell columns (database b r columns ks (suc i)) (getD (ks .places i) s 0) j
       same e = rw e
 
   -- where key i has just been written, its rows are the others and the new one
@@ -127,8 +128,8 @@ module _ (b r columns : ℕ) (ks : Keys) (count : ℕ) (rule : placementBad r ks
     apart =
         let ps = ks .places i in
         let k = ks .index i in
-        let new : ℕ → ℕ = λ s. word columns (database b r columns ks (suc i)) (getD ps s 0) j in
-        let old : ℕ → ℕ = λ s. word columns (database b r columns ks i) (getD ps s 0) j in
+        let new : ℕ → ℕ = λ s. cell columns (database b r columns ks (suc i)) (getD ps s 0) j in
+        let old : ℕ → ℕ = λ s. cell columns (database b r columns ks i) (getD ps s 0) j in
         let each : (s : ℕ) → s < length ps → cond (eqb s k) 0 (new s) ≡ cond (eqb s k) 0 (old s) =
         λ s m. elim (ℕ-discrete s k) [
           | yes e ↦ at s (new s) (old s) e
@@ -150,8 +151,8 @@ module _ (b r columns : ℕ) (ks : Keys) (count : ℕ) (rule : placementBad r ks
       let now : ℕ = rowsSum columns (database b r columns ks count) ps j in
       let then : ℕ = rowsSum columns (database b r columns ks (suc i)) ps j in
       let e : now ≡ then =
-      sum-ext (length ps) (λ s. word columns (database b r columns ks count) (getD ps s 0) j)
-      (λ s. word columns (database b r columns ks (suc i)) (getD ps s 0) j)
+      sum-ext (length ps) (λ s. cell columns (database b r columns ks count) (getD ps s 0) j)
+      (λ s. cell columns (database b r columns ks (suc i)) (getD ps s 0) j)
       (λ s m. stays i s j m l count h (omega arith)) in
       let f : now + ks .mask i j ≡ fresh b r columns ks i j + (others + ks .mask i j) = omega (arith, apart i h j l) in
       cong-trans (cong-eq f) (less-back b (ks .element i j) (others + ks .mask i j))

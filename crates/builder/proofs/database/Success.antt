@@ -15,9 +15,10 @@ use Rattle.laws.proofs.Refusals.{written}
 use Rattle.laws.proofs.Search.{none-holds}
 use Rattle.laws.proofs.Sums.{sum-ext}
 use Rattle.arith.specs.Limits.{anyAbove, elementsBad}
+use Rattle.arith.specs.Matrix.{cell}
 use Rattle.builder.specs.Keys.{Keys, lentKeys}
 use Rattle.builder.specs.Placement.{placementBad}
-use Rattle.builder.specs.Database.{word, rowsSum, database, buildNumber, buildAfter}
+use Rattle.builder.specs.Database.{rowsSum, database, buildNumber, buildAfter}
 use Rattle.builder.proofs.placement.Rule.{below, each-fine}
 use Rattle.builder.proofs.database.Answers.{accepted}
 use Rattle.builder.proofs.database.Law.{length-database, key-row}
@@ -37,7 +38,7 @@ module _ (b r columns : ℕ) (ks : Keys) (count : ℕ) (rule : placementBad r ks
   kept i h j l =
       let d = database b r columns ks count in
       let ps = ks .places i in
-      sum-ext (length ps) (λ s. word columns (laid d held) (getD ps s 0) j) (λ s. word columns d (getD ps s 0) j)
+      sum-ext (length ps) (λ s. cell columns (laid d held) (getD ps s 0) j) (λ s. cell columns d (getD ps s 0) j)
       (λ s m. List·getD-append d (drop (length d) held) 0 (getD ps s 0 * columns + j)
       (omega (
         arith,

@@ -10,13 +10,13 @@ use lib.ListN.{length, getD}
 use borrow.Author.Needs.{needs}
 use Rattle.laws.specs.Sums.{sum}
 use Rattle.laws.proofs.Sums.{cong-eq, wrap-add}
-use Rattle.builder.specs.Database.{word}
+use Rattle.arith.specs.Matrix.{cell}
 use Rattle.builder.proofs.database.others_sum.Statement.{statement}
 use Rattle.builder.proofs.database.others_sum.Tie as tie
 
 -- word j of the row at position s, or 0 where that is the target
 abbrev term : ℕ → List ℕ → ℕ → ℕ → List ℕ → ℕ → ℕ
-term columns ps index j words s = cond (eqb s index) 0 (word columns words (getD ps s 0) j)
+term columns ps index j words s = cond (eqb s index) 0 (cell columns words (getD ps s 0) j)
 
 abbrev Inv-loop : tie.InvT-loop
 Inv-loop columns ps index j words acc₀ s₀ acc s =
