@@ -6,4 +6,5 @@ pub mod Matrix
 pub mod Sampler
 pub mod Bytes
 pub mod Codec
+pub mod Positions
 pub mod Worked

@@ -5,6 +5,7 @@ use super::matrix::Plain;
 ghost use mathlib.Core.Path.{_≡_};
 ghost use Prim.Native.Nat.{_+_, _*_, _/_, _%_, _^_, _≤_};
 ghost use mathlib.Core.Bool.{not, _||_};
+ghost use mathlib.Core.List.{[], _∷_};
 ghost use lib.ListN.{length};
 ghost use lib.Dec.{ltb, eqb};
 ghost use Rattle.laws.specs.Lists.{build, laid};
@@ -24,7 +25,7 @@ pub enum Parsed {
 }
 
 // The bytes of a word, lowest first, as many as `part` has room for.
-fn put_word(x: u32, part: &mut [u8])
+pub fn put_word(x: u32, part: &mut [u8])
     ensures { λ _. ⌜ now (part .exit) ≡ build (length (now (part .entry))) (λ i. x / 256 ^ i % 256) ⌝ }
 {
     let mut rest = x;
@@ -85,14 +86,21 @@ pub fn to_bytes(rows: usize, columns: usize, words: &[u32], out: &mut [u8]) -> P
     Plain::Done
 }
 
+// Four bytes as a word, lowest first.
+pub fn word_of(x0: u8, x1: u8, x2: u8, x3: u8) -> u32
+    ensures { λ r. ⌜ r ≡ wordAt (x0 ∷ x1 ∷ x2 ∷ x3 ∷ []) 0 ⌝ }
+{
+    let low = x0 as u32 + x1 as u32 * 256;
+    low + x2 as u32 * 65536 + x3 as u32 * 16777216
+}
+
 // Word q of the bytes.
 fn word_at(bytes: &[u8], q: usize) -> u32
     requires { ⌜ q * 4 + 4 ≤ length (now bytes) ⌝ }
     ensures { λ r. ⌜ r ≡ wordAt (now (bytes .entry)) q ⌝ }
 {
     let at = q * 4;
-    let low = bytes[at] as u32 + bytes[at + 1] as u32 * 256;
-    low + bytes[at + 2] as u32 * 65536 + bytes[at + 3] as u32 * 16777216
+    word_of(bytes[at], bytes[at + 1], bytes[at + 2], bytes[at + 3])
 }
 
 // 11: is the length of what follows the dimensions not four times their product? It is counted in fours: four times the

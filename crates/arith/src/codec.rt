@@ -45,9 +45,8 @@ fn bit(x: u32, i: usize) -> u32
     (x >> i) & 1
 }
 
-// 2: C outside 1..=512, or C·b below 264. C is tested before the product is taken, which then fits.
-fn columns_bad(b: u32, columns: usize) -> bool
-    requires { ⌜ b ≤ 14 ⌝ }
+// 2: C outside 1..=512, or C·b below 264. C is tested before the product is taken, which then fits for any b.
+pub fn columns_bad(b: u32, columns: usize) -> bool
     ensures { λ r. ⌜ r ≡ columnsBad b columns ⌝ }
 {
     if limits::out_of(1, 512, columns) {

@@ -5,5 +5,7 @@ pub mod codec;
 pub mod limits;
 pub mod matrix;
 pub mod packing;
+pub mod positions;
 pub mod product;
 pub mod sampler;
+pub mod words;

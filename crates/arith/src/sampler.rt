@@ -56,7 +56,8 @@ fn count_read(interval: u32, wanted: usize, words: &[u32]) -> Sampled
 }
 
 // The whole answer, known before anything is written: 2, 4, 3 in this order, or the count of words to read.
-fn plan(interval: u32, wanted: usize, words: &[u32]) -> Sampled
+// It is public because the client counts the words of both its samples before it writes anything.
+pub fn words_to_read(interval: u32, wanted: usize, words: &[u32]) -> Sampled
     ensures { λ r. ⌜ sampledNumber r ≡ sampleNumber interval wanted (now (words .entry)) ⌝ }
     ensures { λ r. ⌜ sampledRead r ≡ sampleRead interval wanted (now (words .entry)) ⌝ }
 {
@@ -94,7 +95,7 @@ pub fn sample_from_uniform_ternary_dist(interval: u32, words: &[u32], out: &mut 
     ensures { λ r. ⌜ sampledRead r ≡ sampleRead interval (length (now (out .entry))) (now (words .entry)) ⌝ }
     ensures { λ _. ⌜ now (out .exit) ≡ sampleAfter interval (now (words .entry)) (now (out .entry)) ⌝ }
 {
-    let answer = plan(interval, out.len(), words);
+    let answer = words_to_read(interval, out.len(), words);
     let Sampled::Read(read) = answer else {
         return answer;
     };

@@ -2,11 +2,12 @@
 // its row modulo 2^b.
 use super::placement;
 use arith::limits;
+use arith::words;
 ghost use mathlib.Core.Path.{_≡_};
 ghost use mathlib.Core.Bool.{false, cond};
 ghost use Prim.Native.Nat.{ℕ, _+_, _*_, _%_, _^_, _<_, _≤_};
 ghost use lib.Dec.{eqb};
-ghost use lib.ListN.{length, getD, replicate};
+ghost use lib.ListN.{length, getD};
 ghost use Rattle.laws.specs.Lists.{build, splice};
 ghost use Rattle.builder.specs.Keys.{lentKeys};
 ghost use Rattle.builder.specs.Placement.{placementBad};
@@ -111,17 +112,6 @@ fn refusal(
     Built::Done
 }
 
-// The builder takes D as all zero, whatever the lent words held.
-fn zero(words: &mut [u32])
-    ensures { λ _. ⌜ now (words .exit) ≡ replicate (length (now (words .entry))) 0 ⌝ }
-{
-    let mut i: usize = 0;
-    while i < words.len() {
-        words[i] = 0;
-        i += 1;
-    }
-}
-
 // Word j of the row at position s, or 0 where that is the target.
 fn other(columns: usize, ps: [u32; 4], index: u32, j: usize, s: usize, words: &[u32]) -> u32
     requires { ⌜ (s < 4) × (j < columns) × (getD ps s 0 * columns + columns ≤ length (now words)) ⌝ }
@@ -208,7 +198,7 @@ fn place_key(
     subtract_row(b, row, sums, masks, &mut words[start..end]);
 }
 
-// The whole database: all zero, and then key after key, in the order proposed.
+// The whole database: all zero, whatever the lent words held, and then key after key, in the order proposed.
 fn place_keys(
     b: u32,
     r: usize,
@@ -226,7 +216,7 @@ fn place_keys(
     requires { ⌜ placementBad r (lentKeys columns (now rows) (now masks) (now positions) (now targets)) count ≡ false ⌝ }
     ensures { λ _. ⌜ now (words .exit) ≡ database b r columns (lentKeys columns (now (rows .entry)) (now (masks .entry)) (now (positions .entry)) (now (targets .entry))) count ⌝ }
 {
-    zero(words);
+    words::zero(words);
     let mut sums = [0u32; 512];
     let start: usize = 0;
     let mut i: usize = 0;

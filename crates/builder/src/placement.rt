@@ -1,14 +1,15 @@
 // Document 01, "Builder": the placement check, 15's rule, in time linear in the keys.
+use arith::positions;
 ghost use mathlib.Core.Path.{_≡_};
 ghost use mathlib.Core.Bool.{false, _||_};
 ghost use mathlib.Core.List.{[]};
 ghost use Prim.Native.Nat.{ℕ, _+_, _*_, _<_, _≤_};
 ghost use lib.ListN.{length, getD};
-ghost use lib.Dec.{leb, eqb};
+ghost use lib.Dec.{leb};
 ghost use Rattle.laws.specs.Lists.{row};
-ghost use Rattle.laws.specs.Search.{some};
 ghost use Rattle.builder.specs.Keys.{lentKeys};
-ghost use Rattle.builder.specs.Placement.{among, positionsBad, placementBad};
+ghost use Rattle.arith.specs.Positions.{among, positionsBad};
+ghost use Rattle.builder.specs.Placement.{placementBad};
 
 // The four positions of key i.
 pub(crate) fn places(positions: &[u32], i: usize) -> [u32; 4]
@@ -24,44 +25,12 @@ pub(crate) fn places(positions: &[u32], i: usize) -> [u32; 4]
     ]
 }
 
-// Is position s equal to one that stands before it?
-fn repeats(ps: [u32; 4], s: usize) -> bool
-    requires { ⌜ s < 4 ⌝ }
-    ensures { λ a. ⌜ a ≡ some s (λ t. eqb (getD ps t 0) (getD ps s 0)) ⌝ }
-{
-    let mut t: usize = 0;
-    while t < s {
-        if ps[t] == ps[s] {
-            return true;
-        }
-        t += 1;
-    }
-    false
-}
-
-// 5's sense: is a position r or more, or are two equal?
-fn positions_bad(r: usize, ps: [u32; 4]) -> bool
-    ensures { λ a. ⌜ a ≡ positionsBad r ps ⌝ }
-{
-    let mut s: usize = 0;
-    while s < 4 {
-        if r <= ps[s] as usize {
-            return true;
-        }
-        if repeats(ps, s) {
-            return true;
-        }
-        s += 1;
-    }
-    false
-}
-
 // The rule for one key, where a mark is set at each position of a key written before it.
 fn key_bad(r: usize, ps: [u32; 4], index: u32, marks: &[bool]) -> bool
     requires { ⌜ r ≤ length (now marks) ⌝ }
     ensures { λ a. ⌜ a ≡ (positionsBad r ps || leb (length ps) index || getD (now (marks .entry)) (getD ps index 0) false) ⌝ }
 {
-    if positions_bad(r, ps) {
+    if positions::positions_bad(r, ps) {
         return true;
     }
     if 4 <= index {

@@ -16,10 +16,11 @@ use Rattle.laws.proofs.Search.{none-holds}
 use Rattle.laws.proofs.Sums.{sum-ext}
 use Rattle.arith.specs.Limits.{anyAbove, elementsBad}
 use Rattle.arith.specs.Matrix.{cell}
+use Rattle.arith.proofs.positions.Distinct.{below}
 use Rattle.builder.specs.Keys.{Keys, lentKeys}
 use Rattle.builder.specs.Placement.{placementBad}
 use Rattle.builder.specs.Database.{rowsSum, database, buildNumber, buildAfter}
-use Rattle.builder.proofs.placement.Rule.{below, each-fine}
+use Rattle.builder.proofs.placement.Rule.{each-fine}
 use Rattle.builder.proofs.database.Answers.{accepted}
 use Rattle.builder.proofs.database.Law.{length-database, key-row}
 

@@ -1,12 +1,13 @@
 -- The dimension first, and then the product.
 use mathlib.Core.Path.{_≡_, sym, _∙_}
 use mathlib.Core.Bool.{false}
+use Prim.Native.Nat.{_≤_}
+use native.Mathlib.Nat.{mul-le-mul}
 use native.Mathlib.Omega.{arith}
 use borrow.Author.Needs.{needs}
 use Rattle.laws.specs.Refusals.{outside}
 use Rattle.laws.proofs.Refusals.{inside}
 use Rattle.arith.specs.Codec.{columnsBad}
-use Rattle.arith.proofs.codec.Sizes.{few-bits}
 use Rattle.arith.proofs.codec.columns_bad.Statement.{statement}
 use Rattle.arith.proofs.codec.columns_bad.Tie as tie
 
@@ -23,8 +24,9 @@ returns c = simp (sym (c .before .out-of .ensures) ∙ c .if1 .taken)
 
 mul-result : tie.Need-mul-result
 mul-result c =
-    let st = c .before .before in
-    omega (arith, few-bits (st .pre) (inside 1 512 (st .args .columns) (columns-in c) .1))
+    let a = c .before .before .args in
+    let hb : a .b ≤ 4294967295 = omega arith in
+    omega (arith, mul-le-mul (inside 1 512 (a .columns) (columns-in c) .1) hb)
 
 returns-2 : tie.Need-returns-2
 unfolding columnsBad

@@ -32,7 +32,7 @@ unfolding encodeNumber
 returns c = simp (sym (c .before .width-bad .ensures) ∙ c .if1 .taken)
 
 columns-bad-requires : tie.Need-columns-bad-requires
-columns-bad-requires c κs = inside 4 14 (c .before .before .args .b) (width-in c) .1
+columns-bad-requires c κs = search needs
 
 returns-2 : tie.Need-returns-2
 unfolding encodeNumber

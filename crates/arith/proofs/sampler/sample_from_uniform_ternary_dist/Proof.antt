@@ -25,16 +25,16 @@ module _ (c : tie.After-known-told) where
   wanted = length (c .before .before .before .before .before .before .args .out .now)
 
   none : sampleNumber interval wanted words ≡ 0
-  none = success interval wanted words _ _ (c .before .answer .given .1) (c .before .before .before .plan .ensures .0)
+  none = success interval wanted words _ _ (c .before .answer .given .1) (c .before .before .before .words-to-read .ensures .0)
 
   all-read : c .before .answer .given .0 .0 ≡ shortest interval wanted words
   all-read =
-      let p = c .before .before .before .plan .ensures in
+      let p = c .before .before .before .words-to-read .ensures in
       reads interval wanted words _ _ (c .before .answer .given .1) (p .0) (p .1)
 
   within : c .before .answer .given .0 .0 ≤ length words
   within =
-      let p = c .before .before .before .plan .ensures in
+      let p = c .before .before .before .words-to-read .ensures in
       read-within interval wanted words _ _ (c .before .answer .given .1) (p .0) (p .1)
 
   enough : (interval ≤ 1431655765) × (tooFew interval wanted words ≡ false)
@@ -43,16 +43,16 @@ module _ (c : tie.After-known-told) where
   lent : given interval (take (c .before .answer .given .0 .0) words) ≡ given interval (take (shortest interval wanted words) words)
   lent = ap (λ (n : ℕ). given interval (take n words)) all-read
 
-plan-requires : tie.Need-plan-requires
-plan-requires c κs = search needs
+words-to-read-requires : tie.Need-words-to-read-requires
+words-to-read-requires c κs = search needs
 
 enum-known-answer : tie.Need-enum-known-answer
 enum-known-answer c = search needs
 
 returns : tie.Need-returns
 returns c =
-    let e = c .before .plan .ensures .0 in
-    (e, (c .before .plan .ensures .1, kept _ _ _ (rw e at (refusing (c .before .plan .result) (c .match .keys2)))))
+    let e = c .before .words-to-read .ensures .0 in
+    (e, (c .before .words-to-read .ensures .1, kept _ _ _ (rw e at (refusing (c .before .words-to-read .result) (c .match .keys2)))))
 
 slice-aggregate-fill : tie.Need-slice-aggregate-fill
 slice-aggregate-fill c = sym (length-take-le _ (words (c .before)) (within (c .before)))
@@ -75,7 +75,7 @@ pub sample-from-uniform-ternary-dist-spec : {M : Type 1} → statement M
 sample-from-uniform-ternary-dist-spec =
     tie.close
     (tie.spec
-    plan-requires
+    words-to-read-requires
     enum-known-answer
     returns
     slice-aggregate-fill

@@ -9,10 +9,12 @@ use borrow.Author.Needs.{needs}
 use Rattle.laws.specs.Search.{some}
 use Rattle.laws.proofs.Lists.{room}
 use Rattle.laws.proofs.Search.{some-none, some-more, some-holds}
+use Rattle.arith.specs.Positions.{among}
+use Rattle.arith.proofs.positions.Distinct.{below}
 use Rattle.builder.specs.Keys.{Keys, lentKeys}
-use Rattle.builder.specs.Placement.{among, keyBad, placementBad}
+use Rattle.builder.specs.Placement.{keyBad, placementBad}
 use Rattle.builder.proofs.placement.Marks.{Seen, seen-none, seen-more, judged}
-use Rattle.builder.proofs.placement.Rule.{fine, below}
+use Rattle.builder.proofs.placement.Rule.{fine}
 use Rattle.builder.proofs.placement.placement_bad.Statement.{statement}
 use Rattle.builder.proofs.placement.placement_bad.Tie as tie
 

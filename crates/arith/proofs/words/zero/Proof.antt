@@ -6,8 +6,8 @@ use native.Mathlib.Omega.{arith}
 use lib.ListN.{length, drop, replicate, drop-of-length-le}
 use borrow.Author.Fill.{fill-more}
 use borrow.Author.Needs.{needs}
-use Rattle.builder.proofs.database.zero.Statement.{statement}
-use Rattle.builder.proofs.database.zero.Tie as tie
+use Rattle.arith.proofs.words.zero.Statement.{statement}
+use Rattle.arith.proofs.words.zero.Tie as tie
 
 abbrev Inv-loop : tie.InvT-loop
 Inv-loop words₀ i₀ words i = (i ≤ length words₀) × (length words ≡ length words₀) × (words ≡ replicate i 0 ++ drop i words₀)

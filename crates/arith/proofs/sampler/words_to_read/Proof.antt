@@ -8,8 +8,8 @@ use Rattle.laws.specs.Refusals.{after}
 use Rattle.laws.proofs.Refusals.{inside}
 use Rattle.arith.specs.Sampler.{sampledNumber, sampleNumber, shortest}
 use Rattle.arith.proofs.sampler.Answers.{unread}
-use Rattle.arith.proofs.sampler.plan.Statement.{statement}
-use Rattle.arith.proofs.sampler.plan.Tie as tie
+use Rattle.arith.proofs.sampler.words_to_read.Statement.{statement}
+use Rattle.arith.proofs.sampler.words_to_read.Tie as tie
 
 returns : tie.Need-returns
 unfolding sampleNumber
@@ -40,5 +40,5 @@ returns-3 c =
     simp (c .count-read .ensures .0, le-ltb _ _ (c .before .before .before .if1 .left), sym (c .before .before .out-of .ensures), c .before .if2 .left) in
     (e, c .count-read .ensures .1 ∙ ap (λ (n : ℕ). after n (shortest (a .interval) (a .wanted) (a .words .now)) 0) e)
 
-pub plan-spec : {M : Type 1} → statement M
-plan-spec = tie.close (tie.spec returns out-of-requires returns-2 count-read-requires returns-3)
+pub words-to-read-spec : {M : Type 1} → statement M
+words-to-read-spec = tie.close (tie.spec returns out-of-requires returns-2 count-read-requires returns-3)

@@ -8,10 +8,10 @@ use borrow.Author.Needs.{needs}
 use borrow.Author.Tests.{le-leb, lt-leb}
 use Rattle.laws.specs.Search.{some}
 use Rattle.laws.proofs.Search.{some-none, some-more, some-holds}
-use Rattle.builder.specs.Placement.{positionsBad}
-use Rattle.builder.proofs.placement.Rule.{far, twice}
-use Rattle.builder.proofs.placement.positions_bad.Statement.{statement}
-use Rattle.builder.proofs.placement.positions_bad.Tie as tie
+use Rattle.arith.specs.Positions.{positionsBad}
+use Rattle.arith.proofs.positions.Distinct.{far, twice}
+use Rattle.arith.proofs.positions.positions_bad.Statement.{statement}
+use Rattle.arith.proofs.positions.positions_bad.Tie as tie
 
 abbrev Inv-loop : tie.InvT-loop
 Inv-loop r ps s₀ s = (s ≤ 4) × (some s (far r ps) ≡ false) × (some s (twice ps) ≡ false)

@@ -7,9 +7,9 @@ use borrow.Author.Needs.{needs}
 use borrow.Author.Tests.{eq-eqb, ne-eqb}
 use Rattle.laws.specs.Search.{some}
 use Rattle.laws.proofs.Search.{some-none, some-more, some-holds}
-use Rattle.builder.proofs.placement.Rule.{same}
-use Rattle.builder.proofs.placement.repeats.Statement.{statement}
-use Rattle.builder.proofs.placement.repeats.Tie as tie
+use Rattle.arith.proofs.positions.Distinct.{same}
+use Rattle.arith.proofs.positions.repeats.Statement.{statement}
+use Rattle.arith.proofs.positions.repeats.Tie as tie
 
 abbrev Inv-loop : tie.InvT-loop
 Inv-loop s ps t₀ t = (t ≤ s) × (some t (same ps s) ≡ false)

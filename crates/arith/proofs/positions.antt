@@ -1,0 +1,2 @@
+-- Laws of the positions.
+pub mod Distinct
