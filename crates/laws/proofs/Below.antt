@@ -1,7 +1,9 @@
 -- Lists of numbers below n, however they are put together.
 use mathlib.Core.List.{List, [], _∷_, _++_}
-use Prim.Native.Nat.{ℕ, zero, suc, _+_, _<_}
-use lib.ListN.{length, getD, take, drop, replicate}
+use Prim.Native.Nat.{ℕ, zero, suc, _+_, _<_, _≤_}
+use native.Mathlib.Omega.{arith}
+use native.Mathlib.Decide.{decLt}
+use lib.ListN.{length, getD, take, drop, replicate, List·getD-eq-default}
 use Rattle.laws.specs.Lists.{build, splice}
 
 abbrev pub Below : ℕ → List ℕ → Type 0
@@ -14,6 +16,14 @@ module _ (n : ℕ) where
   below-at [] h z i = z
   below-at (x ∷ xs) h z zero = h .0
   below-at (x ∷ xs) h z (suc i) = below-at xs (h .1) z i
+
+  -- the same, from each element alone
+  pub each-below : (xs : List ℕ) → 0 < n → ((i : ℕ) → i < length xs → getD xs i 0 < n) → (i : ℕ) → getD xs i 0 < n
+  each-below xs z h i =
+      elim (decLt i (length xs)) [
+        | yes l ↦ h i l
+        | no g ↦ let k : length xs ≤ i = omega arith in rw (List·getD-eq-default xs 0 k) z
+      ]
 
   below-append : (xs ys : List ℕ) → Below n xs → Below n ys → Below n (xs ++ ys)
   below-append [] ys h k = k

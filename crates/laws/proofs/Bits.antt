@@ -1,21 +1,27 @@
 -- Bits put together and taken apart, over any width.
-use mathlib.Core.Path.{_≡_, refl, sym, ap, _∙_}
+use mathlib.Core.Path.{_≡_, refl, ap, _∙_}
 use mathlib.Core.List.{List}
-use Prim.Native.Nat.{ℕ, zero, suc, _+_, _*_, _-_, _/_, _%_, _^_, _<_, _≤_}
-use native.Mathlib.Nat.{add-comm, zero-add, mod-lt, mod-eq-of-lt, div-eq-of-lt, div-lt-iff-lt-mul, div-add-mod', add-mul-div-right, add-mul-mod-self-right, pow-succ', not-suc-le-zero}
+use Prim.Native.Nat.{ℕ, _+_, _*_, _/_, _%_, _^_, _<_, _≤_}
+use native.Mathlib.Nat.{add-comm, one-mul, mod-lt, mod-eq-of-lt, div-lt-iff-lt-mul, div-add-mod'}
 use native.Mathlib.Numerals.{add-one}
 use native.Mathlib.Omega.{arith}
-use native.Mathlib.Decide.{decLt}
-use lib.Arith.{digits-lt, digits-div, digits-mod}
+use lib.Arith.{digits-div, digits-mod}
 use lib.Bits.{bitOr, or-shifted-r}
 use lib.ListN.{length, getD}
-use lib.Pow.{pow-pos, pow-add, shl-exact}
+use lib.Pow.{pow-pos, pow-lt, shl-exact}
 use lib.Seq.{ext-getD}
 use Rattle.laws.specs.Sums.{sum}
 use Rattle.laws.specs.Bits.{bitOf, gathered, carried}
 use Rattle.laws.proofs.Lists.{room, length-build, getD-build, build-ext}
 use Rattle.laws.proofs.Sums.{sum-ext}
-use Rattle.laws.proofs.Digits.{low-digits}
+use Rattle.laws.proofs.Digits.{low-digits, together-lt, digit-together}
+
+-- a one that is shifted stays inside its word, and so is not 0
+pub one-shifted : (k : ℕ) → k < 32 → (1 * 2 ^ k) % 2 ^ 32 ≡ 2 ^ k
+one-shifted k h = ap (λ (x : ℕ). x % 2 ^ 32) (one-mul (2 ^ k)) ∙ mod-eq-of-lt (pow-lt {j = 32} h)
+
+pub shifted-pos : (k : ℕ) → k < 32 → 0 < (1 * 2 ^ k) % 2 ^ 32
+shifted-pos k h = omega (arith, one-shifted k h, pow-pos k)
 
 pub bit-lt : (w : ℕ) (xs : List ℕ) (k : ℕ) → bitOf w xs k < 2
 unfolding bitOf
@@ -39,10 +45,8 @@ gathered-ext w f g at h =
 -- Gathering bits, each 0 or 1.
 module _ (f : ℕ → ℕ) (small : (k : ℕ) → f k < 2) (at : ℕ) where
   pub gathered-lt : (w : ℕ) → gathered w f at < 2 ^ w
-  unfolding gathered sum
-  gathered-lt zero = pow-pos 0
-  gathered-lt (suc n) =
-      rw (add-comm (sum n (λ i. f (at + i) * 2 ^ i)), pow-succ' 2 n) (digits-lt (small (at + n)) (gathered-lt n))
+  unfolding gathered
+  gathered-lt = together-lt 2 (λ i. f (at + i)) (λ i. small (at + i))
 
   -- `word | (bit << n)` gathers one bit more
   pub gathered-more : (n word bit : ℕ) → n < 32 → bit ≡ f (at + n) → word ≡ gathered n f at
@@ -57,38 +61,8 @@ module _ (f : ℕ → ℕ) (small : (k : ℕ) → f k < 2) (at : ℕ) where
 
   -- bit i of what was gathered
   pub bit-gathered : (w i : ℕ) → i < w → gathered w f at / 2 ^ i % 2 ≡ f (at + i)
-  unfolding gathered sum
-  bit-gathered zero i l = absurd (not-suc-le-zero l)
-  bit-gathered (suc n) i l = elim (decLt i n) [ yes k ↦ below k (bit-gathered n i k) | no g ↦ top (omega arith) ]
-    where
-      c : ℕ
-      c = f (at + n)
-
-      low : ℕ
-      low = sum n (λ k. f (at + k) * 2 ^ k)
-
-      above : i < n → c * 2 ^ n ≡ c * 2 ^ (n - i - 1) * 2 * 2 ^ i
-      above k =
-          let e : n ≡ (n - i - 1) + suc i = omega arith in
-          ap (λ (m : ℕ). c * 2 ^ m) e
-          ∙ ap (λ (m : ℕ). c * m) (pow-add 2 (n - i - 1) (suc i) ∙ ap (λ (m : ℕ). 2 ^ (n - i - 1) * m) (pow-succ' 2 i))
-          ∙ omega arith
-
-      below : i < n → low / 2 ^ i % 2 ≡ f (at + i) → (low + c * 2 ^ n) / 2 ^ i % 2 ≡ f (at + i)
-      below k ih =
-          ap (λ (m : ℕ). (low + m) / 2 ^ i % 2) (above k)
-          ∙ ap (λ (m : ℕ). m % 2) (add-mul-div-right low (c * 2 ^ (n - i - 1) * 2) (pow-pos i))
-          ∙ add-mul-mod-self-right (low / 2 ^ i) (c * 2 ^ (n - i - 1)) 2
-          ∙ ih
-
-      top : n ≡ i → (low + c * 2 ^ n) / 2 ^ i % 2 ≡ f (at + i)
-      top e =
-          ap (λ (m : ℕ). (low + c * 2 ^ n) / 2 ^ m % 2) (sym e)
-          ∙ ap (λ (m : ℕ). m % 2) (add-mul-div-right low c (pow-pos n))
-          ∙ ap (λ (m : ℕ). (m + c) % 2) (div-eq-of-lt (gathered-lt n))
-          ∙ ap (λ (m : ℕ). m % 2) (zero-add c)
-          ∙ mod-eq-of-lt (small (at + n))
-          ∙ ap (λ (m : ℕ). f (at + m)) e
+  unfolding gathered
+  bit-gathered = digit-together 2 (λ i. f (at + i)) (λ i. small (at + i))
 
 -- gathering the bits of a number gives the number
 pub gathered-bits : (w : ℕ) (xs : List ℕ) (j : ℕ) → getD xs j 0 < 2 ^ w → gathered w (bitOf w xs) (j * w) ≡ getD xs j 0

@@ -2,11 +2,11 @@
 use mathlib.Core.Path.{_≡_, refl, sym, ap, ap₂, _∙_}
 use mathlib.Core.List.{List, [], _∷_, _++_, append-assoc, append-nil}
 use Prim.Native.Nat.{ℕ, _+_, _*_, _-_, _<_, _≤_}
-use native.Mathlib.Nat.{zero-add}
+use native.Mathlib.Nat.{zero-add, add-zero}
 use native.Mathlib.Numerals.{add-one}
 use native.Mathlib.Omega.{arith}
-use lib.ListN.{length, set, take, drop, length-append, length-drop, drop-of-length-le}
-use lib.Seq.{set-split, drop-drop, take-at, drop-append-add}
+use lib.ListN.{length, getD, set, take, drop, length-append, length-drop, drop-of-length-le}
+use lib.Seq.{set-split, drop-drop, take-at, take-length, drop-append-add, getD-append-add, getD-drop, paste}
 use borrow.Rule.Slice.PartMut.{putMid}
 use Rattle.laws.specs.Lists.{build, join, splice, laid}
 use Rattle.laws.proofs.Lists.{room, length-build, length-join}
@@ -21,6 +21,13 @@ pub put-splice : {A : Type 0} (a d : ℕ) (xs ys : List A) → d ≡ length ys �
 unfolding splice
 put-splice a d xs ys h =
     ap (λ l. take a xs ++ (ys ++ l)) (drop-drop d a xs ∙ ap (λ (i : ℕ). drop (a + i) xs) h)
+
+-- a list that was copied in, element after element, is a splice
+pub paste-splice : {A : Type 0} (a : ℕ) (ys xs : List A) → paste xs a ys (length ys) ≡ splice a ys xs
+unfolding splice
+paste-splice a ys xs =
+    ap (λ l. take a xs ++ l ++ drop (a + length ys) xs) (take-length ys)
+    ∙ append-assoc (take a xs) ys (drop (a + length ys) xs)
 
 -- the start of a buffer, lent and come back
 pub front-laid : {A : Type 0} (n : ℕ) (xs ys : List A) → n ≡ length ys → putMid 0 (n - 0) xs ys ≡ laid ys xs
@@ -41,9 +48,28 @@ module _ {A : Type 0} where
   filled-none old = record { long = refl; laid-is = refl }
 
   -- nothing is left of what the buffer held
-  pub filled-whole : {xs old new : List A} → Filled xs old new → length old ≤ length xs → new ≡ xs
+  pub laid-whole : (xs old : List A) → length old ≤ length xs → laid xs old ≡ xs
   unfolding laid
-  filled-whole {xs} {old} p h = p .laid-is ∙ ap (λ l. xs ++ l) (drop-of-length-le old h) ∙ append-nil xs
+  laid-whole xs old h = ap (λ l. xs ++ l) (drop-of-length-le old h) ∙ append-nil xs
+
+  pub filled-whole : {xs old new : List A} → Filled xs old new → length old ≤ length xs → new ≡ xs
+  filled-whole {xs} {old} p h = p .laid-is ∙ laid-whole xs old h
+
+  -- the first element past what was written is as it was
+  pub filled-next : (xs old new : List A) (n : ℕ) (d : A) → Filled xs old new → length xs ≡ n → getD new n d ≡ getD old n d
+  unfolding laid
+  filled-next xs old new n d p h =
+      rw (← h)
+      (ap (λ l. getD l (length xs) d) (p .laid-is)
+      ∙ ap (λ (k : ℕ). getD (xs ++ drop (length xs) old) k d) (sym (add-zero (length xs)))
+      ∙ getD-append-add xs (drop (length xs) old) 0 d
+      ∙ getD-drop (length xs) old 0 d
+      ∙ ap (λ (k : ℕ). getD old k d) (add-zero (length xs)))
+
+  -- what was written is read back from the start
+  pub take-laid : (xs old : List A) (n : ℕ) → length xs ≡ n → take n (laid xs old) ≡ xs
+  unfolding laid
+  take-laid xs old n h = take-at xs (drop (length xs) old) n h
 
   length-laid : (xs old : List A) → length xs ≤ length old → length (laid xs old) ≡ length old
   unfolding laid

@@ -6,7 +6,7 @@ use native.Mathlib.Nat.{add-zero, add-suc, suc-mul, zero-mul, not-suc-le-zero, m
 use native.Mathlib.Numerals.{add-one}
 use native.Mathlib.Omega.{arith}
 use native.Mathlib.Decide.{decLe, decLt}
-use lib.ListN.{length, getD, take, drop, length-append, length-take, length-drop, List·getD-append}
+use lib.ListN.{length, getD, take, drop, replicate, length-append, length-take, length-drop, List·getD-append}
 use lib.Seq.{getD-at, getD-take, getD-drop, ext-getD, take-append-le, drop-append-le, drop-at, take-all}
 use Rattle.laws.specs.Lists.{build, join, part, row}
 
@@ -19,6 +19,12 @@ length-part at n xs h = omega (arith, length-take n (drop at xs), length-drop at
 
 pub getD-part : {A : Type 0} (at n : ℕ) (xs : List A) (i : ℕ) (d : A) → i < n → getD (part at n xs) i d ≡ getD xs (at + i) d
 getD-part at n xs i d h = getD-take n (drop at xs) i d h ∙ getD-drop at xs i d
+
+-- the same everywhere, past the end too
+pub getD-uniform : {A : Type 0} (n i : ℕ) (d : A) → getD (replicate n d) i d ≡ d
+getD-uniform zero i d = refl
+getD-uniform (suc n) zero d = refl
+getD-uniform (suc n) (suc i) d = getD-uniform n i d
 
 -- row j, lent from where it starts to where it ends
 pub row-lent : {A : Type 0} (k j : ℕ) (m : List A) → part (j * k) (j * k + k - j * k) m ≡ row k m j

@@ -1,14 +1,14 @@
 -- What a test that did not hold says, and that one equation allows one result.
 use mathlib.Core.Path.{_≡_, refl, sym, ap, ap₂, _∙_}
 use mathlib.Core.Bool.{Bool, true, false, _||_}
-use mathlib.Core.List.{List, _∷_}
+use mathlib.Core.List.{List, [], _∷_, _++_}
 use Prim.Native.Nat.{ℕ, zero, suc, _<_, _≤_}
 use native.Mathlib.Nat.{not-suc-le-zero}
 use native.Mathlib.Decide.{ℕ-discrete}
 use native.Mathlib.Omega.{arith}
 use lib.Dec.{ltb, eqb}
 use borrow.Author.Tests.{ltb-false, le-ltb, eq-eqb, ne-eqb}
-use Rattle.laws.specs.Refusals.{Test, _⇒_, first, after, outside, OneResult}
+use Rattle.laws.specs.Refusals.{Test, _⇒_, first, after, outside, OneResult, OneOutcome}
 
 pub neither : (s t : Bool) → (s || t) ≡ false → (s ≡ false) × (t ≡ false)
 neither true t e = let z : _≡_ {A = ℕ} 0 1 = cc in absurd (omega arith)
@@ -35,6 +35,46 @@ pub passed : (t : Bool) (n : ℕ) (ts : List Test) → first (t ⇒ suc n ∷ ts
 passed true n ts e = absurd (omega arith)
 passed false n ts e = (refl, e)
 
+-- a refusal: the tests after the one that holds don't matter
+pub refused-before : (ts us : List Test) → 0 < first ts → first (ts ++ us) ≡ first ts
+refused-before [] us h = absurd (not-suc-le-zero h)
+refused-before ((true ⇒ n) ∷ ts) us h = refl
+refused-before ((false ⇒ n) ∷ ts) us h = refused-before ts us h
+
+-- every test has a number, which is not 0; and no test holds
+abbrev pub Numbered : List Test → Type 0
+Numbered [] = Unit
+Numbered ((t ⇒ zero) ∷ ts) = ⊥
+Numbered ((t ⇒ suc n) ∷ ts) = Numbered ts
+
+abbrev pub Clear : List Test → Type 0
+Clear [] = Unit
+Clear ((t ⇒ n) ∷ ts) = (t ≡ false) × Clear ts
+
+-- success: no test holds, and then those after them decide
+pub all-clear : (ts : List Test) → Numbered ts → first ts ≡ 0 → Clear ts
+all-clear [] h e = tt
+all-clear ((t ⇒ zero) ∷ ts) h e = absurd h
+all-clear ((t ⇒ suc n) ∷ ts) h e = let p = passed t n ts e in (p .0, all-clear ts h (p .1))
+
+pub clear-front : (ts us : List Test) → Clear (ts ++ us) → Clear ts
+clear-front [] us h = tt
+clear-front ((t ⇒ n) ∷ ts) us h = (h .0, clear-front ts us (h .1))
+
+pub clear-before : (ts us : List Test) → Clear ts → first (ts ++ us) ≡ first us
+clear-before [] us h = refl
+clear-before ((t ⇒ n) ∷ ts) us h = rw (h .0) (clear-before ts us (h .1))
+
+-- no test has the number k, so the answer is not k
+abbrev pub Without : ℕ → List Test → Type 0
+Without k [] = Unit
+Without k ((t ⇒ n) ∷ ts) = (eqb n k ≡ false) × Without k ts
+
+pub not-answered : (k : ℕ) (ts : List Test) → Without (suc k) ts → eqb (first ts) (suc k) ≡ false
+not-answered k [] h = ne-eqb 0 (suc k) (λ e. omega arith)
+not-answered k ((true ⇒ n) ∷ ts) h = h .0
+not-answered k ((false ⇒ n) ∷ ts) h = not-answered k ts (h .1)
+
 -- what a buffer holds: on a refusal what it held, on success what was written
 pub kept : {A : Type 0} (n : ℕ) (new old : A) → 0 < n → old ≡ after n new old
 kept zero new old h = absurd (not-suc-le-zero h)
@@ -44,11 +84,11 @@ pub written : {A : Type 0} (n : ℕ) (new old : A) → n ≡ 0 → new ≡ after
 written n new old e = rw e
 
 -- Two results that one equation allows coincide, where a result can be told from what is said of it.
-settled : {A B : Type 0} (said : A → B) (told : B → A) → ((x : A) → told (said x) ≡ x)
-    → (v : B) {x y : A} → said x ≡ v → said y ≡ v → x ≡ y
-settled said told back v {x} {y} p q = sym (back x) ∙ ap told (p ∙ sym q) ∙ back y
+pub one-outcome : {A B : Type 0} (said : A → B) (told : B → A) → ((x : A) → told (said x) ≡ x) → (v : B)
+    → OneOutcome said v
+one-outcome said told back v r s p q = sym (back r) ∙ ap told (p ∙ sym q) ∙ back s
 
--- the clauses of a contract leave one result where an answer can be told from what they say of it
+-- and so do the outputs beside them
 pub one-result : {A B C : Type 0} (said : A → B) (told : B → A) → ((x : A) → told (said x) ≡ x) → (v : B) (after : C)
     → OneResult said v after
-one-result said told back v after r s x y p q = (settled said told back v (p .0) (q .0), p .1 ∙ sym (q .1))
+one-result said told back v after r s x y p q = (one-outcome said told back v r s (p .0) (q .0), p .1 ∙ sym (q .1))

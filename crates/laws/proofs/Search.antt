@@ -1,11 +1,13 @@
 -- A search from 0 on: what it has found, and what it has not.
-use mathlib.Core.Path.{_≡_, refl, sym, ap₂, _∙_}
-use mathlib.Core.Bool.{Bool, true, false, cond, _||_, or-true}
+use mathlib.Core.Path.{_≡_, refl, sym, ap, ap₂, _∙_}
+use mathlib.Core.Bool.{Bool, true, false, true≢false, cond, _||_, or-true}
 use Prim.Native.Nat.{ℕ, zero, suc, _+_, _<_, _≤_}
 use native.Mathlib.Nat.{not-suc-le-zero}
 use native.Mathlib.Numerals.{add-one}
 use native.Mathlib.Omega.{arith}
-use native.Mathlib.Decide.{decLt}
+use native.Mathlib.Decide.{decLt, ℕ-discrete}
+use lib.Dec.{ltb}
+use borrow.Author.Tests.{lt-ltb, le-ltb, ltb-true}
 use Rattle.laws.specs.Search.{some, lowest}
 use Rattle.laws.proofs.Refusals.{neither}
 
@@ -13,6 +15,11 @@ module _ (p : ℕ → Bool) where
   pub some-none : some 0 p ≡ false
   unfolding some
   some-none = refl
+
+  -- one number more
+  pub some-next : (n : ℕ) → (some n p || p n) ≡ some (n + 1) p
+  unfolding some
+  some-next n = rw (add-one n)
 
   -- one number more of which p does not hold
   pub some-more : (n : ℕ) → some n p ≡ false → p n ≡ false → some (n + 1) p ≡ false
@@ -80,15 +87,12 @@ module _ (p : ℕ → Bool) where
   lowest-found zero = (omega arith, λ l. absurd (not-suc-le-zero l), λ i l. absurd (not-suc-le-zero l))
   lowest-found (suc n) = by-tests (some n p) (p n) refl refl (lowest-found n)
     where
-      clash : {A : Type 0} → true ≡ false → A
-      clash e = let z : _≡_ {A = ℕ} 0 1 = cc in absurd (omega arith)
-
       by-tests : (s t : Bool) → some n p ≡ s → p n ≡ t → Lowest n (lowest n p) → Lowest (suc n) (cond s (lowest n p) (cond t n (suc n)))
       by-tests true t e f h = (
         omega (arith, h .0),
         λ l. elim (decLt (lowest n p) n) [
           | yes m ↦ h .1 m
-          | no g ↦ clash (sym e ∙ some-false n (λ i m. h .2 i (omega arith)))
+          | no g ↦ absurd (true≢false (sym e ∙ some-false n (λ i m. h .2 i (omega arith))))
         ],
         h .2,
       )
@@ -105,7 +109,34 @@ module _ (p : ℕ → Bool) where
   pub lowest-below : (n i : ℕ) → i < lowest n p → p i ≡ false
   lowest-below n = lowest-found n .2
 
+  -- one is found below n exactly where p holds of some number below it
+  pub some-lowest : (n : ℕ) → some n p ≡ ltb (lowest n p) n
+  some-lowest n =
+      elim (decLt (lowest n p) n) [
+        | yes l ↦ some-holds n (lowest n p) l (lowest-holds n l) ∙ sym (lt-ltb (lowest n p) n l)
+        | no g ↦ none (omega arith)
+      ]
+    where
+      none : n ≤ lowest n p → some n p ≡ ltb (lowest n p) n
+      none h = some-false n (λ i l. lowest-below n i (omega arith)) ∙ sym (le-ltb (lowest n p) n h)
+
 pub some-ext : (p q : ℕ → Bool) (n : ℕ) → ((i : ℕ) → i < n → p i ≡ q i) → some n p ≡ some n q
 unfolding some
 some-ext p q zero h = refl
 some-ext p q (suc n) h = ap₂ _||_ (some-ext p q n (λ i l. h i (omega arith))) (h n (omega arith))
+
+-- q is p but at s, where p does not hold: one more number may be found
+pub some-changed : (p q : ℕ → Bool) (n s : ℕ) → s < n → ((i : ℕ) → ¬ (i ≡ s) → q i ≡ p i) → p s ≡ false
+    → some n q ≡ (some n p || q s)
+some-changed p q n s h same off = by-tests (some n p) (q s) refl refl
+  where
+    by-tests : (b c : Bool) → some n p ≡ b → q s ≡ c → some n q ≡ (b || c)
+    by-tests true c e f =
+        let l = ltb-true (lowest n p) n (sym (some-lowest p n) ∙ e) in
+        let here = lowest-holds p n l in
+        some-holds q n (lowest n p) l
+        (same (lowest n p) (λ g. true≢false (sym here ∙ ap p g ∙ off)) ∙ here)
+    by-tests false true e f = some-holds q n s h f
+    by-tests false false e f =
+        some-false q n
+        (λ i l. elim (ℕ-discrete i s) [ yes g ↦ ap q g ∙ f | no g ↦ same i g ∙ none-holds p n i e l ])

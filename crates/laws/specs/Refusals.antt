@@ -37,3 +37,7 @@ OneResult {A} {B} {C} said v after =
     → (said r ≡ v) × (x ≡ after)
     → (said s ≡ v) × (y ≡ after)
     → (r ≡ s) × (x ≡ y)
+
+-- the same of an entry that has no output
+abbrev pub OneOutcome : {A B : Type 0} → (A → B) → B → Type 0
+OneOutcome {A} {B} said v = (r s : A) → said r ≡ v → said s ≡ v → r ≡ s
