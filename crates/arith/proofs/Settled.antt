@@ -5,8 +5,8 @@ use mathlib.Core.Bool.{cond}
 use Prim.Native.Nat.{ℕ}
 use lib.Dec.{eqb}
 use lib.ListN.{length}
-use Rattle.laws.specs.Refusals.{OneResult}
-use Rattle.laws.proofs.Refusals.{one-result}
+use Rattle.laws.specs.Refusals.{OneResult, OneOutcome}
+use Rattle.laws.proofs.Refusals.{one-result, one-outcome}
 use Rattle.arith.specs.declared.packing.Packed.{Packed}
 use Rattle.arith.specs.declared.packing.Packed.the-variants as packed
 use Rattle.arith.specs.declared.matrix.Plain.{Plain}
@@ -60,6 +60,10 @@ sampled-back (sampled.Read n) = refl
 sampled-back sampled.Shape = refl
 sampled-back sampled.Interval = refl
 sampled-back sampled.Short = refl
+
+pub words-to-read-settled : (interval n : ℕ) (words : List ℕ)
+    → OneOutcome sampledSaid (sampleNumber interval n words, sampleRead interval n words)
+words-to-read-settled interval n words = one-outcome sampledSaid sampledOf sampled-back _
 
 pub sample-from-uniform-ternary-dist-settled : (interval : ℕ) (words out : List ℕ)
     → OneResult sampledSaid (sampleNumber interval (length out) words, sampleRead interval (length out) words) (sampleAfter interval words out)

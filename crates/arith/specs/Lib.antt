@@ -7,4 +7,3 @@ pub mod Sampler
 pub mod Bytes
 pub mod Codec
 pub mod Positions
-pub mod Worked

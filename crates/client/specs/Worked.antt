@@ -2,9 +2,12 @@
 use mathlib.Core.Path.{_≡_}
 use Prim.Native.Nat.{ℕ}
 use mathlib.Core.List.{List, [], _∷_}
+use Rattle.laws.specs.Refusals.{_⇒_, first}
 use Rattle.arith.specs.Packing.{compressAfter}
 use Rattle.arith.specs.Product.{productAfter}
 use Rattle.arith.specs.Sampler.{sampleRead, sampleAfter}
+use Rattle.client.specs.Rounding.{rounded}
+use Rattle.client.specs.Open.{wraps, marked}
 
 -- 01's number of a case, what the contracts' definitions give for it, and what 01 says
 pub record Case : Type 0 where
@@ -19,6 +22,10 @@ case n xs ys = record { number = n; found = xs; stated = ys }
 abbrev lentWords : List ℕ
 lentWords = 0 ∷ 5 ∷ 6 ∷ 16 ∷ 10 ∷ 11 ∷ 15 ∷ []
 
+-- case 12, of one entry at one position: 6 where it wraps, and what it becomes where it does not
+abbrev sixOrNone : ℕ → ℕ
+sixOrNone entry = first (wraps 10 (0 ∷ []) (entry ∷ []) ⇒ 6 ∷ [])
+
 -- Each output is lent with 7 in every word, which nothing of it may keep.
 abbrev pub worked : List Case
 worked =
@@ -29,6 +36,11 @@ worked =
     ∷ case 5 (compressAfter 9 1 3 (511 ∷ 1 ∷ 0 ∷ []) (7 ∷ [])) (1535 ∷ [])
     ∷ case 6 (productAfter 10 1 4 (2 ∷ 3 ∷ 4294967295 ∷ 1 ∷ []) (3147777 ∷ 4 ∷ []) (7 ∷ [])) (9 ∷ [])
     ∷ case 7 (sampleRead 5 6 lentWords ∷ sampleAfter 5 lentWords (7 ∷ 7 ∷ 7 ∷ 7 ∷ 7 ∷ 7 ∷ [])) (7 ∷ 0 ∷ 0 ∷ 1 ∷ 1 ∷ 4294967295 ∷ 4294967295 ∷ [])
+    ∷ case 8 (rounded 10 2097152 ∷ []) (0 ∷ [])
+    ∷ case 9 (rounded 10 2097153 ∷ []) (1 ∷ [])
+    ∷ case 10 (rounded 10 4294967295 ∷ []) (0 ∷ [])
+    ∷ case 11 (rounded 10 4292870144 ∷ []) (1023 ∷ [])
+    ∷ case 12 (sixOrNone 4290772992 ∷ sixOrNone 4290772991 ∷ marked 10 (0 ∷ []) (4290772991 ∷ [])) (6 ∷ 0 ∷ 4294967295 ∷ [])
     ∷ []
 
 -- every case of a table is as 01 states it

@@ -1,0 +1,4 @@
+-- Laws of the client that belong to no one module. Those of a module stand in its folder, which its node file declares.
+pub mod Calls
+pub mod Worked
+pub mod Settled

@@ -1,0 +1,43 @@
+-- What a refusal and what success say.
+use mathlib.Core.Path.{_≡_}
+use mathlib.Core.Bool.{true, false, not}
+use mathlib.Core.List.{[], _∷_}
+use Prim.Native.Nat.{ℕ, _*_, _<_}
+use native.Mathlib.Omega.{arith}
+use lib.Dec.{eqb}
+use borrow.Author.Tests.{eqb-true, not-false}
+use types.Run.{OneOf, miss}
+use denote.Enum.Declared.{tagOf}
+use Rattle.laws.specs.Refusals.{_⇒_}
+use Rattle.laws.proofs.Refusals.{passed}
+use Rattle.client.specs.Table.{malformed, pending}
+use Rattle.client.specs.Discard.{discardingNumber, discardNumber}
+use Rattle.client.specs.declared.table.Table.{Table}
+use Rattle.client.specs.declared.discard.Discarding.{Discarding}
+use Rattle.client.specs.declared.discard.Discarding.the-variants.{Done, Malformed, Shape, NotPending}
+use Rattle.client.proofs.discard.Discarding.{the-type}
+
+-- an answer other than `Done`, as a `let .. else` tells it, has a number
+pub refusing : (r : Discarding) → OneOf (1 ∷ 2 ∷ 3 ∷ []) (tagOf the-type r) → 0 < discardingNumber r
+refusing Done h = absurd (miss (1 ∷ 2 ∷ 3 ∷ []) 0 tt h)
+refusing Malformed h = omega arith
+refusing Shape h = omega arith
+refusing NotPending h = omega arith
+
+-- 0: the table is well formed, the slab has its words, and the ticket is pending
+pub record Accepted (t : Table) (slab ticket : ℕ) : Type 0 where
+  pub well : malformed t ≡ false
+  pub whole : slab ≡ 64 * t .columns
+  pub waiting : pending t ticket ≡ true
+
+pub accepted : (t : Table) (slab ticket : ℕ) → discardNumber t slab ticket ≡ 0 → Accepted t slab ticket
+unfolding discardNumber
+accepted t slab ticket e =
+    let rest = not (pending t ticket) ⇒ 10 ∷ [] in
+    let p = passed (malformed t) 17 (not (eqb slab (64 * t .columns)) ⇒ 2 ∷ rest) e in
+    let q = passed (not (eqb slab (64 * t .columns))) 1 rest (p .1) in
+    record {
+      well = p .0;
+      whole = eqb-true _ _ (not-false _ (q .0));
+      waiting = not-false _ (passed (not (pending t ticket)) 9 [] (q .1) .0);
+    }

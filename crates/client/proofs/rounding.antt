@@ -1,0 +1,2 @@
+-- Laws of rounding.
+pub mod Indicator

@@ -1,0 +1,17 @@
+-- Document 01: Δ, and a word rounded to the nearest multiple of it.
+use Prim.Native.Nat.{ℕ, _+_, _-_, _/_, _%_, _^_}
+use mathlib.Core.Bool.{cond}
+use lib.Dec.{ltb}
+use Rattle.laws.specs.Refusals.{outside}
+
+-- Δ
+abbrev pub delta : ℕ → ℕ
+delta b = 2 ^ (32 - b)
+
+-- Δ where a u32 is that, and else 0
+unfoldable pub indicatorOf : ℕ → ℕ
+indicatorOf b = cond (outside 1 32 b) 0 (delta b)
+
+-- the quotient u/Δ, one more exactly when the remainder exceeds Δ/2, then modulo 2^b
+unfoldable pub rounded : ℕ → ℕ → ℕ
+rounded b u = (u / delta b + cond (ltb (delta b / 2) (u % delta b)) 1 0) % 2 ^ b

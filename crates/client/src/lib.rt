@@ -1,0 +1,8 @@
+// The client of document 01. Each public entry refuses bad input by a number of 01, has no `requires`, and says its answer,
+// its table and each lent buffer at exit as an equation with a definition of specs/.
+pub mod discard;
+pub mod lines;
+pub mod open;
+pub mod reply;
+pub mod rounding;
+pub mod table;

@@ -1,0 +1,372 @@
+// Document 01, "Open": samples a secret and an error, makes the query and stores what the reply will need.
+use super::rounding;
+use super::table;
+use super::table::Table;
+use arith::limits;
+use arith::matrix;
+use arith::positions as places;
+use arith::sampler;
+use arith::sampler::Sampled;
+use arith::words as lent;
+ghost use mathlib.Core.Path.{_≡_};
+ghost use mathlib.Core.Bool.{false};
+ghost use mathlib.Core.List.{[], _∷_};
+ghost use Prim.Native.Nat.{_+_, _*_, _%_, _^_, _≤_, _<_};
+ghost use lib.ListN.{length, getD, take, replicate};
+ghost use lib.Dec.{eqb};
+ghost use Rattle.laws.specs.Refusals.{_⇒_, first, after, outside};
+ghost use Rattle.laws.specs.Lists.{build, splice, laid};
+ghost use Rattle.arith.specs.Matrix.{times};
+ghost use Rattle.arith.specs.Positions.{positionsBad};
+ghost use Rattle.arith.specs.Sampler.{given, sampledNumber, sampledRead};
+ghost use Rattle.client.specs.Table.{digestPending, full, slotOf, taken};
+ghost use Rattle.client.specs.Open.{asked, shapeBad, unread, bothRead, eitherShort, noisy, wraps, marked, early};
+ghost use Rattle.client.specs.Open.{openingNumber, openingTicket, openingRead, openSaid, openOf, left, openLeft};
+
+// What an open answers.
+pub enum Opening {
+    // 0: the ticket, and the count of words read over both samples.
+    Ticket(u32, usize),
+    // 18: the table is malformed.
+    Malformed,
+    // 2: n, R or a lent length outside its limit, or the query too short.
+    Shape,
+    // 4: the interval is outside 1..=1431655765.
+    Interval,
+    // 5: a position is R or more, or two are equal.
+    Positions,
+    // 7: the digest is already pending.
+    Pending,
+    // 8: no free slot.
+    Full,
+    // 9: the next ticket number is 2^32 - 1.
+    Numbers,
+    // 3: the words end before enough are accepted.
+    Short,
+    // 6: an entry would wrap; the count of words read, which must not be used again.
+    Wraps(usize),
+}
+
+pub struct Opened {
+    pub answer: Opening,
+    pub table: Table,
+}
+
+// 2: each dimension is tested before a product is taken.
+fn shape_bad(
+    columns: usize,
+    n: usize,
+    r: usize,
+    slab: usize,
+    matrix: usize,
+    hint: usize,
+    secret: usize,
+    error: usize,
+    query: usize,
+) -> bool
+    requires { ⌜ columns ≤ 512 ⌝ }
+    ensures { λ a. ⌜ a ≡ shapeBad columns n r slab matrix hint secret error query ⌝ }
+{
+    if limits::out_of(1, 2048, n) {
+        return true;
+    }
+    if limits::out_of(1, 4096, r) {
+        return true;
+    }
+    if matrix != n * r {
+        return true;
+    }
+    if hint != n * columns {
+        return true;
+    }
+    if slab != 64 * columns {
+        return true;
+    }
+    if secret != n {
+        return true;
+    }
+    if error != r {
+        return true;
+    }
+    query < r
+}
+
+// 4, 5, 7, 8, 9: else the next number as the ticket, and no words read yet.
+fn place_refusal(
+    table: Table,
+    r: usize,
+    interval: u32,
+    positions: [u32; 4],
+    digest: [u8; 32],
+) -> Opening
+    ensures { λ a. ⌜ openingNumber a ≡ first (outside 1 1431655765 interval ⇒ 4 ∷ positionsBad r positions ⇒ 5 ∷ digestPending table digest ⇒ 7 ∷ full table ⇒ 8 ∷ eqb (table .next) 4294967295 ⇒ 9 ∷ []) ⌝ }
+    ensures { λ a. ⌜ openingTicket a ≡ after (openingNumber a) (table .next) 0 ⌝ }
+    ensures { λ a. ⌜ openingRead a ≡ 0 ⌝ }
+{
+    if limits::out_of(1, 1431655765, interval as usize) {
+        return Opening::Interval;
+    }
+    if places::positions_bad(r, positions) {
+        return Opening::Positions;
+    }
+    if table::digest_pending(table, digest) {
+        return Opening::Pending;
+    }
+    if table::slot_of(table, 0) == 64 {
+        return Opening::Full;
+    }
+    if table.next == 4294967295 {
+        return Opening::Numbers;
+    }
+    Opening::Ticket(table.next, 0)
+}
+
+// 3: else the count of words that both samples read.
+fn words_for_both(interval: u32, n: usize, r: usize, words: &[u32]) -> Sampled
+    requires { ⌜ (n ≤ 4096) × (r ≤ 4096) × (outside 1 1431655765 interval ≡ false) ⌝ }
+    ensures { λ a. ⌜ sampledNumber a ≡ first (eitherShort interval n r (now (words .entry)) ⇒ 3 ∷ []) ⌝ }
+    ensures { λ a. ⌜ sampledRead a ≡ after (sampledNumber a) (bothRead interval n r (now (words .entry))) 0 ⌝ }
+{
+    let Sampled::Read(s) = sampler::words_to_read(interval, n, words) else {
+        return Sampled::Short;
+    };
+    let Sampled::Read(e) = sampler::words_to_read(interval, r, &words[s..]) else {
+        return Sampled::Short;
+    };
+    Sampled::Read(s + e)
+}
+
+// Every refusal but 6, before anything is written; else the ticket and the count of words to read.
+fn plan(
+    table: Table,
+    slab: &[u32],
+    n: usize,
+    r: usize,
+    matrix: &[u32],
+    hint: &[u32],
+    interval: u32,
+    positions: [u32; 4],
+    digest: [u8; 32],
+    words: &[u32],
+    secret: &[u32],
+    error: &[u32],
+    query: &[u32],
+) -> Opening
+    ensures { λ a. ⌜ openingNumber a ≡ early (asked table (now (slab .entry)) n r (now (matrix .entry)) (now (hint .entry)) interval positions digest (now (words .entry)) (now (secret .entry)) (now (error .entry)) (now (query .entry))) ⌝ }
+    ensures { λ a. ⌜ openingTicket a ≡ after (openingNumber a) (table .next) 0 ⌝ }
+    ensures { λ a. ⌜ openingRead a ≡ after (openingNumber a) (bothRead interval n r (now (words .entry))) 0 ⌝ }
+{
+    if table::is_malformed(table) {
+        return Opening::Malformed;
+    }
+    if shape_bad(
+        table.columns,
+        n,
+        r,
+        slab.len(),
+        matrix.len(),
+        hint.len(),
+        secret.len(),
+        error.len(),
+        query.len(),
+    ) {
+        return Opening::Shape;
+    }
+    let place = place_refusal(table, r, interval, positions, digest);
+    let Opening::Ticket(ticket, _) = place else {
+        return place;
+    };
+    let Sampled::Read(read) = words_for_both(interval, n, r, words) else {
+        return Opening::Short;
+    };
+    Opening::Ticket(ticket, read)
+}
+
+// The two samples, the error from what the secret's left unread.
+fn draw(interval: u32, words: &[u32], secret: &mut [u32], error: &mut [u32])
+    requires { ⌜ (length (now secret) ≤ 4096) × (length (now error) ≤ 4096) × (outside 1 1431655765 interval ≡ false) ⌝ }
+    requires { ⌜ eitherShort interval (length (now secret)) (length (now error)) (now words) ≡ false ⌝ }
+    ensures { λ _. ⌜ now (secret .exit) ≡ take (length (now (secret .entry))) (given interval (now (words .entry))) ⌝ }
+    ensures { λ _. ⌜ now (error .exit) ≡ take (length (now (error .entry))) (given interval (unread interval (length (now (secret .entry))) (now (words .entry)))) ⌝ }
+{
+    let unread = sampler::sample_and_return_unread(interval, words, secret);
+    sampler::sample_from_uniform_ternary_dist(interval, unread, error);
+}
+
+// Adds x times a row to the sums, modulo 2^32.
+fn add_row(x: u32, row: &[u32], sums: &mut [u32])
+    requires { ⌜ length (now row) ≡ length (now sums) ⌝ }
+    ensures { λ _. ⌜ now (sums .exit) ≡ build (length (now (sums .entry))) (λ j. (getD (now (sums .entry)) j 0 + x * getD (now (row .entry)) j 0) % 2 ^ 32) ⌝ }
+{
+    let mut j: usize = 0;
+    while j < sums.len() {
+        let wide = sums[j] as u64 + x as u64 * row[j] as u64;
+        sums[j] = (wide % 4294967296) as u32;
+        j += 1;
+    }
+}
+
+// sA + e in the place of e, row after row of A, so that no third work buffer ever holds a secret.
+fn add_product(secret: &[u32], matrix: &[u32], error: &mut [u32])
+    requires { ⌜ (length (now error) ≤ 4096) × (length (now secret) ≤ 2048) ⌝ }
+    requires { ⌜ length (now matrix) ≡ length (now secret) * length (now error) ⌝ }
+    ensures { λ _. ⌜ now (error .exit) ≡ noisy (length (now (secret .entry))) (length (now (error .entry))) (now (secret .entry)) (now (matrix .entry)) (now (error .entry)) ⌝ }
+{
+    let r = error.len();
+    let mut i: usize = 0;
+    while i < secret.len() {
+        let start = i * r;
+        let end = start + r;
+        add_row(secret[i], &matrix[start..end], error);
+        i += 1;
+    }
+}
+
+// 6: does an entry plus Δ wrap at one of the positions?
+fn wraps_at(b: u32, positions: [u32; 4], query: &[u32]) -> bool
+    requires { ⌜ (4 ≤ b) × (b ≤ 14) × (positionsBad (length (now query)) positions ≡ false) ⌝ }
+    ensures { λ a. ⌜ a ≡ wraps b positions (now (query .entry)) ⌝ }
+{
+    let greatest = 4294967295 - rounding::calculate_query_indicator(b);
+    let mut s: usize = 0;
+    while s < 4 {
+        if greatest < query[positions[s] as usize] {
+            return true;
+        }
+        s += 1;
+    }
+    false
+}
+
+// Adds Δ at the positions, each of which is another and none of which wraps.
+fn mark(b: u32, positions: [u32; 4], query: &mut [u32])
+    requires { ⌜ (4 ≤ b) × (b ≤ 14) × (positionsBad (length (now query)) positions ≡ false) ⌝ }
+    requires { ⌜ wraps b positions (now query) ≡ false ⌝ }
+    ensures { λ _. ⌜ now (query .exit) ≡ marked b positions (now (query .entry)) ⌝ }
+{
+    let delta = rounding::calculate_query_indicator(b);
+    let mut s: usize = 0;
+    while s < 4 {
+        let at = positions[s] as usize;
+        query[at] = query[at] + delta;
+        s += 1;
+    }
+}
+
+// Writes `from` into the start of `out`.
+fn copy(from: &[u32], out: &mut [u32])
+    requires { ⌜ length (now from) ≤ length (now out) ⌝ }
+    ensures { λ _. ⌜ now (out .exit) ≡ laid (now (from .entry)) (now (out .entry)) ⌝ }
+{
+    let mut i: usize = 0;
+    while i < from.len() {
+        out[i] = from[i];
+        i += 1;
+    }
+}
+
+// s times hint into the words of slot s of the slab.
+fn put_secret(columns: usize, slot: usize, secret: &[u32], hint: &[u32], slab: &mut [u32])
+    requires { ⌜ (1 ≤ length (now secret)) × (length (now secret) ≤ 2048) × (1 ≤ columns) × (columns ≤ 512) × (slot < 64) ⌝ }
+    requires { ⌜ (length (now hint) ≡ length (now secret) * columns) × (length (now slab) ≡ 64 * columns) ⌝ }
+    ensures { λ _. ⌜ now (slab .exit) ≡ splice (slot * columns) (times 1 (length (now (secret .entry))) columns (now (secret .entry)) (now (hint .entry))) (now (slab .entry)) ⌝ }
+{
+    let start = slot * columns;
+    let end = start + columns;
+    matrix::plain_product(
+        1,
+        secret.len(),
+        columns,
+        secret,
+        hint,
+        &mut slab[start..end],
+    );
+}
+
+// Opens: the query is in the error's place and wraps nowhere. Both work buffers end as zeros.
+fn store(
+    table: Table,
+    slab: &mut [u32],
+    hint: &[u32],
+    positions: [u32; 4],
+    digest: [u8; 32],
+    secret: &mut [u32],
+    error: &mut [u32],
+    query: &mut [u32],
+) -> Table
+    requires { ⌜ (4 ≤ table .b) × (table .b ≤ 14) × (1 ≤ table .columns) × (table .columns ≤ 512) ⌝ }
+    requires { ⌜ (slotOf table 0 < 64) × (table .next < 4294967295) ⌝ }
+    requires { ⌜ (1 ≤ length (now secret)) × (length (now secret) ≤ 2048) × (length (now error) ≤ length (now query)) ⌝ }
+    requires { ⌜ (length (now hint) ≡ length (now secret) * table .columns) × (length (now slab) ≡ 64 * table .columns) ⌝ }
+    requires { ⌜ (positionsBad (length (now error)) positions ≡ false) × (wraps (table .b) positions (now error) ≡ false) ⌝ }
+    ensures { λ t. ⌜ t ≡ taken table (slotOf table 0) digest ⌝ }
+    ensures { λ _. ⌜ now (slab .exit) ≡ splice (slotOf table 0 * table .columns) (times 1 (length (now (secret .entry))) (table .columns) (now (secret .entry)) (now (hint .entry))) (now (slab .entry)) ⌝ }
+    ensures { λ _. ⌜ now (secret .exit) ≡ replicate (length (now (secret .entry))) 0 ⌝ }
+    ensures { λ _. ⌜ now (error .exit) ≡ replicate (length (now (error .entry))) 0 ⌝ }
+    ensures { λ _. ⌜ now (query .exit) ≡ laid (marked (table .b) positions (now (error .entry))) (now (query .entry)) ⌝ }
+{
+    let slot = table::slot_of(table, 0);
+    mark(table.b, positions, error);
+    copy(error, query);
+    put_secret(table.columns, slot, secret, hint, slab);
+    lent::zero(secret);
+    lent::zero(error);
+    table::take_slot(table, slot, digest)
+}
+
+// Opens a query for the key with these positions and this digest. On success `query` starts with the R words to send, and
+// the slab has the secret that the reply will need.
+pub fn query_for_4_wise_xor_filter(
+    table: Table,
+    slab: &mut [u32],
+    n: usize,
+    r: usize,
+    matrix: &[u32],
+    hint: &[u32],
+    interval: u32,
+    positions: [u32; 4],
+    digest: [u8; 32],
+    words: &[u32],
+    secret: &mut [u32],
+    error: &mut [u32],
+    query: &mut [u32],
+) -> Opened
+    ensures { λ o. ⌜ openSaid o ≡ openOf (asked table (now (slab .entry)) n r (now (matrix .entry)) (now (hint .entry)) interval positions digest (now (words .entry)) (now (secret .entry)) (now (error .entry)) (now (query .entry))) ⌝ }
+    ensures { λ _. ⌜ left (now (slab .exit)) (now (secret .exit)) (now (error .exit)) (now (query .exit)) ≡ openLeft (asked table (now (slab .entry)) n r (now (matrix .entry)) (now (hint .entry)) interval positions digest (now (words .entry)) (now (secret .entry)) (now (error .entry)) (now (query .entry))) ⌝ }
+{
+    let answer = plan(
+        table,
+        slab,
+        n,
+        r,
+        matrix,
+        hint,
+        interval,
+        positions,
+        digest,
+        words,
+        secret,
+        error,
+        query,
+    );
+    let Opening::Ticket(_, read) = answer else {
+        return Opened {
+            answer: answer,
+            table: table,
+        };
+    };
+    draw(interval, words, secret, error);
+    add_product(secret, matrix, error);
+    if wraps_at(table.b, positions, error) {
+        lent::zero(secret);
+        lent::zero(error);
+        return Opened {
+            answer: Opening::Wraps(read),
+            table: table,
+        };
+    }
+    Opened {
+        answer: answer,
+        table: store(table, slab, hint, positions, digest, secret, error, query),
+    }
+}

@@ -1,0 +1,224 @@
+// Document 01, "Reply": a response to a pending ticket gives the stored value, or a numbered refusal.
+use super::rounding;
+use super::table;
+use super::table::Table;
+use arith::codec;
+use arith::codec::Decoded;
+ghost use mathlib.Core.Path.{_≡_};
+ghost use mathlib.Core.Bool.{false, not};
+ghost use mathlib.Core.List.{[], _∷_};
+ghost use Prim.Native.Nat.{_*_, _≤_, _<_};
+ghost use lib.ListN.{length};
+ghost use lib.Dec.{eqb};
+ghost use Rattle.laws.specs.Refusals.{_⇒_, first, after};
+ghost use Rattle.laws.specs.Lists.{row, laid};
+ghost use Rattle.arith.specs.Codec.{columnsBad, valueRoom, valueLength, valueOf, decodedNumber};
+ghost use Rattle.client.specs.Table.{malformed, pending};
+ghost use Rattle.client.specs.Reply.{received, lentBad, lessWord, recovered, rowNumber, replyingNumber, replyingLength};
+ghost use Rattle.client.specs.Reply.{replySaid, replyOf, replySlab, replyValue};
+
+// What a reply answers.
+pub enum Reply {
+    // 0: the value's length; the ticket is closed.
+    Value(usize),
+    // 18: the table is malformed.
+    Malformed,
+    // 2: the slab or the masks of a wrong length, or the value buffer too short.
+    Shape,
+    // 10: the ticket is not pending.
+    NotPending,
+    // 12: the response's length is not C.
+    Length,
+    // 17: an element of the row is 2^b or more.
+    Element,
+    // 13: the row has no marker where one must be; the ticket is closed.
+    Marker,
+    // 14: the digest differs in any byte; the ticket is closed.
+    Digest,
+}
+
+pub struct Replied {
+    pub answer: Reply,
+    pub table: Table,
+}
+
+// 2: the slab, the masks or the value buffer. A table that is not malformed has 33 whole bytes or more.
+fn lent_bad(table: Table, slab: usize, masks: usize, value: usize) -> bool
+    requires { ⌜ (table .b ≤ 14) × (columnsBad (table .b) (table .columns) ≡ false) ⌝ }
+    ensures { λ r. ⌜ r ≡ lentBad table slab masks value ⌝ }
+{
+    if slab != 64 * table.columns {
+        return true;
+    }
+    if masks != table.columns {
+        return true;
+    }
+    value < table.columns * (table.b as usize) / 8 - 33
+}
+
+// 18, 2, 10, 12: the refusals that need no row. Where none holds, a value of no length yet.
+fn refusal(
+    table: Table,
+    slab: usize,
+    ticket: u32,
+    response: usize,
+    masks: usize,
+    value: usize,
+) -> Reply
+    ensures { λ r. ⌜ replyingNumber r ≡ first (malformed table ⇒ 18 ∷ lentBad table slab masks value ⇒ 2 ∷ not (pending table ticket) ⇒ 10 ∷ not (eqb response (table .columns)) ⇒ 12 ∷ []) ⌝ }
+    ensures { λ r. ⌜ replyingLength r ≡ 0 ⌝ }
+{
+    if table::is_malformed(table) {
+        return Reply::Malformed;
+    }
+    if lent_bad(table, slab, masks, value) {
+        return Reply::Shape;
+    }
+    if !table::is_pending(table, ticket) {
+        return Reply::NotPending;
+    }
+    if response != table.columns {
+        return Reply::Length;
+    }
+    Reply::Value(0)
+}
+
+// x less y, modulo 2^32.
+fn less(x: u32, y: u32) -> u32
+    ensures { λ r. ⌜ r ≡ lessWord x y ⌝ }
+{
+    let wide = x as u64 + (4294967296 - y as u64);
+    (wide % 4294967296) as u32
+}
+
+// The row that a response gives with its query's secret.
+fn recover(b: u32, secret: &[u32], response: &[u32], masks: &[u32], row: &mut [u32])
+    requires { ⌜ (4 ≤ b) × (b ≤ 14) × (length (now response) ≡ length (now row)) ⌝ }
+    requires { ⌜ (length (now secret) ≡ length (now row)) × (length (now masks) ≡ length (now row)) ⌝ }
+    ensures { λ _. ⌜ now (row .exit) ≡ recovered b (now (secret .entry)) (now (response .entry)) (now (masks .entry)) ⌝ }
+{
+    let modulus: u32 = 1 << b;
+    let mut j: usize = 0;
+    while j < row.len() {
+        let element = rounding::rounded(b, less(response[j], secret[j]));
+        row[j] = (element + masks[j] % modulus) % modulus;
+        j += 1;
+    }
+}
+
+// What the row reader refuses, as a reply's answer. Its 1 and 2 can't come up.
+fn refused(decoded: Decoded) -> Reply
+    requires { ⌜ 2 < decodedNumber decoded ⌝ }
+    ensures { λ r. ⌜ replyingNumber r ≡ decodedNumber decoded ⌝ }
+    ensures { λ r. ⌜ replyingLength r ≡ 0 ⌝ }
+{
+    let Decoded::Marker = decoded else {
+        return Reply::Element;
+    };
+    Reply::Marker
+}
+
+// Writes `from` into the start of `out`.
+fn copy(from: &[u8], out: &mut [u8])
+    requires { ⌜ length (now from) ≤ length (now out) ⌝ }
+    ensures { λ _. ⌜ now (out .exit) ≡ laid (now (from .entry)) (now (out .entry)) ⌝ }
+{
+    let mut i: usize = 0;
+    while i < from.len() {
+        out[i] = from[i];
+        i += 1;
+    }
+}
+
+// 17, 13, 14: else the value. It is read aside first, so that a row of another digest leaves `value` untouched.
+fn read_row(table: Table, slot: usize, row: &[u32], value: &mut [u8]) -> Reply
+    requires { ⌜ (4 ≤ table .b) × (table .b ≤ 14) × (columnsBad (table .b) (table .columns) ≡ false) ⌝ }
+    requires { ⌜ (slot < 64) × (length (now row) ≡ table .columns) × (valueRoom (table .b) (table .columns) ≤ length (now value)) ⌝ }
+    ensures { λ r. ⌜ replyingNumber r ≡ rowNumber table slot (now (row .entry)) ⌝ }
+    ensures { λ r. ⌜ replyingLength r ≡ after (replyingNumber r) (valueLength (table .b) (table .columns) (now (row .entry))) 0 ⌝ }
+    ensures { λ r. ⌜ now (value .exit) ≡ after (replyingNumber r) (laid (valueOf (table .b) (table .columns) (now (row .entry))) (now (value .entry))) (now (value .entry)) ⌝ }
+{
+    let mut digest = [0u8; 32];
+    let mut found = [0u8; 863];
+    let decoded = codec::decode_kv_from_row(table.b, table.columns, row, &mut digest, &mut found);
+    let Decoded::Value(n) = decoded else {
+        return refused(decoded);
+    };
+    if table::digest_differs(digest, table::digest_of(table, slot)) {
+        return Reply::Digest;
+    }
+    copy(&found[..n], value);
+    Reply::Value(n)
+}
+
+// The value for the response to the ticket in this slot.
+fn answer_for(
+    table: Table,
+    slot: usize,
+    slab: &[u32],
+    response: &[u32],
+    masks: &[u32],
+    value: &mut [u8],
+) -> Reply
+    requires { ⌜ (4 ≤ table .b) × (table .b ≤ 14) × (columnsBad (table .b) (table .columns) ≡ false) ⌝ }
+    requires { ⌜ (slot < 64) × (length (now slab) ≡ 64 * table .columns) ⌝ }
+    requires { ⌜ (length (now response) ≡ table .columns) × (length (now masks) ≡ table .columns) × (valueRoom (table .b) (table .columns) ≤ length (now value)) ⌝ }
+    ensures { λ r. ⌜ replyingNumber r ≡ rowNumber table slot (recovered (table .b) (row (table .columns) (now (slab .entry)) slot) (now (response .entry)) (now (masks .entry))) ⌝ }
+    ensures { λ r. ⌜ replyingLength r ≡ after (replyingNumber r) (valueLength (table .b) (table .columns) (recovered (table .b) (row (table .columns) (now (slab .entry)) slot) (now (response .entry)) (now (masks .entry)))) 0 ⌝ }
+    ensures { λ r. ⌜ now (value .exit) ≡ after (replyingNumber r) (laid (valueOf (table .b) (table .columns) (recovered (table .b) (row (table .columns) (now (slab .entry)) slot) (now (response .entry)) (now (masks .entry)))) (now (value .entry))) (now (value .entry)) ⌝ }
+{
+    let start: usize = 0;
+    let columns = table.columns;
+    let from = slot * columns;
+    let to = from + columns;
+    let mut row = [0u32; 512];
+    recover(
+        table.b,
+        &slab[from..to],
+        response,
+        masks,
+        &mut row[start..columns],
+    );
+    read_row(table, slot, &row[start..columns], value)
+}
+
+// The value for a response, written at the start of `value`. Success, 13 and 14 close the ticket.
+pub fn process_response(
+    table: Table,
+    slab: &mut [u32],
+    ticket: u32,
+    response: &[u32],
+    masks: &[u32],
+    value: &mut [u8],
+) -> Replied
+    ensures { λ r. ⌜ replySaid r ≡ replyOf (received table (now (slab .entry)) ticket (now (response .entry)) (now (masks .entry)) (now (value .entry))) ⌝ }
+    ensures { λ _. ⌜ now (slab .exit) ≡ replySlab (received table (now (slab .entry)) ticket (now (response .entry)) (now (masks .entry)) (now (value .entry))) ⌝ }
+    ensures { λ _. ⌜ now (value .exit) ≡ replyValue (received table (now (slab .entry)) ticket (now (response .entry)) (now (masks .entry)) (now (value .entry))) ⌝ }
+{
+    let early = refusal(
+        table,
+        slab.len(),
+        ticket,
+        response.len(),
+        masks.len(),
+        value.len(),
+    );
+    let Reply::Value(_) = early else {
+        return Replied {
+            answer: early,
+            table: table,
+        };
+    };
+    let slot = table::slot_of(table, ticket);
+    let answer = answer_for(table, slot, slab, response, masks, value);
+    let Reply::Element = answer else {
+        return Replied {
+            answer: answer,
+            table: table::close(table, slab, slot),
+        };
+    };
+    Replied {
+        answer: answer,
+        table: table,
+    }
+}
