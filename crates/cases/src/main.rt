@@ -3,12 +3,18 @@
 mod bytes;
 mod codec;
 mod database;
+mod history;
 mod lend;
+mod lines;
 mod matrix;
+mod open;
 mod packing;
 mod print;
 mod product;
+mod reply;
 mod sampler;
+mod store;
+mod table;
 
 fn main() {
     packing::worked();
@@ -28,4 +34,17 @@ fn main() {
     database::worked();
     database::placement();
     database::limits();
+    table::limits();
+    table::malformed();
+    table::indicators();
+    open::refusals();
+    open::shapes();
+    reply::refusals();
+    history::twice(&mut [7; 2240]);
+    history::late(&mut [7; 2240]);
+    history::closing(&mut [7; 2240]);
+    history::full(&mut [7; 2240]);
+    lines::writer();
+    lines::worked();
+    lines::reader();
 }
