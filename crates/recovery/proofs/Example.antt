@@ -78,12 +78,14 @@ key-placed = record {
 pub waits : Waiting store then (ask 3) later
 unfolding build join laid splice sum some lowest bitOf gathered carried anyAbove grid times among positionsBad accepted ternary given holdsEnough shortest tooFew allBytes matrixBytes wordAt columnsBad recordOf rowOf bytesOf endOf markerBad less database keysBad buildNumber seenBefore keyBad placementBad differs alike malformed pending digestPending full rounded shapeBad bothRead eitherShort noisy wraps marked openNumber lentBad lessWord recovered replyNumber discardNumber digit hex frame digitValue unhex lineWords digitsBad lineBad readNumber run allTold
 waits = record {
-  reached = record { slab = replicate 1280 7; events = opening; whole = refl; typed = (refl, tt); is = refl };
-  digest = refl;
-  opened = refl;
-  later = arriving lineOne ∷ [];
-  typed = tt;
-  is = refl;
+  since = record {
+    reached = record { slab = replicate 1280 7; events = opening; whole = refl; typed = (refl, tt); is = refl };
+    digest = refl;
+    opened = refl;
+    later = arriving lineOne ∷ [];
+    typed = tt;
+    is = refl;
+  };
   still = refl;
 }
 

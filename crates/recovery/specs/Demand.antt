@@ -22,14 +22,18 @@ pub record Reached (st : Store) (s : State) : Type 0 where
   pub typed : Typed events
   pub is : s ≡ run st (start st slab) events
 
--- an open that succeeds at s, and any events after it, which leave its ticket pending
-pub record Waiting (st : Store) (s : State) (a : Ask) (u : State) : Type 0 where
+-- an open that succeeds at s, and any events after it, up to u
+pub record Since (st : Store) (s : State) (a : Ask) (u : State) : Type 0 where
   pub reached : Reached st s
   pub digest : length (a .digest) ≡ 32
   pub opened : openNumber (asking st s a) ≡ 0
   pub later : List Event
   pub typed : Typed later
   pub is : u ≡ run st (step st s (opens a)) later
+
+-- and its ticket is still pending
+pub record Waiting (st : Store) (s : State) (a : Ask) (u : State) : Type 0 where
+  pub since : Since st s a u
   pub still : pending (u .table) (s .table .next) ≡ true
 
 -- the R words of its query, the line that carries them, and what an honest server's line for it tells
@@ -82,9 +86,15 @@ pub record Demand (st : Store) : Type 0 where
   pub own : (s u : State) (a : Ask) → Waiting st s a u
       → (digestAt (u .table) (slotOf (u .table) (s .table .next)) ≡ a .digest)
       × (row (st .columns) (u .slab) (slotOf (u .table) (s .table .next)) ≡ keyOf (asking st s a))
-  -- the honest server's line is read as its ticket and its words
-  pub line : (s u : State) (a : Ask) → Waiting st s a u → (out masks value : List ℕ) → st .columns ≤ length out
+  -- the honest server's line is read as its ticket and its words, whenever it comes; and where the ticket is not pending, it is
+  -- refused with 10 and changes nothing
+  pub line : (s u : State) (a : Ask) → Since st s a u → (out masks value : List ℕ) → st .columns ≤ length out
       → step st u (comes (lineOf st s a) out masks value) ≡ replied u (honest st s a masks value)
+  pub late : (s u : State) (a : Ask) → Since st s a u → pending (u .table) (s .table .next) ≡ false
+      → (out masks value : List ℕ) → st .columns ≤ length out → Roomy u (honest st s a masks value)
+      → (replyNumber (telling u (honest st s a masks value)) ≡ 10)
+      × (step st u (comes (lineOf st s a) out masks value) ≡ u)
+      × (replyValue (telling u (honest st s a masks value)) ≡ value)
   -- "if in every column the sum of error times entry is above -2^(31-b) and at most 2^(31-b), the recovered row is the sum of
   -- the queried rows plus the masks, modulo 2^b"
   pub recovers : (s u : State) (a : Ask) → Waiting st s a u → Calm st (errorOf (asking st s a))
