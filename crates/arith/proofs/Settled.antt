@@ -1,18 +1,14 @@
 -- Two results that a contract allows for one input coincide, the answer and each output alike.
 use mathlib.Core.Path.{_≡_, refl}
 use mathlib.Core.List.{List}
-use mathlib.Core.Bool.{cond}
+use mathlib.Core.Bool.{Bool, cond}
 use Prim.Native.Nat.{ℕ}
 use lib.Dec.{eqb}
 use lib.ListN.{length}
 use Rattle.laws.specs.Refusals.{OneResult, OneOutcome}
-use Rattle.laws.proofs.Refusals.{one-result, one-outcome}
+use Rattle.laws.proofs.Refusals.{one-result, one-outcome, one-answer}
 use Rattle.arith.specs.declared.packing.Packed.{Packed}
 use Rattle.arith.specs.declared.packing.Packed.the-variants as packed
-use Rattle.arith.specs.declared.matrix.Plain.{Plain}
-use Rattle.arith.specs.declared.matrix.Plain.the-variants as plain
-use Rattle.arith.specs.declared.bytes.Parsed.{Parsed}
-use Rattle.arith.specs.declared.bytes.Parsed.the-variants as parsed
 use Rattle.arith.specs.declared.codec.Encoded.{Encoded}
 use Rattle.arith.specs.declared.codec.Encoded.the-variants as encoded
 use Rattle.arith.specs.declared.codec.Decoded.{Decoded}
@@ -21,10 +17,7 @@ use Rattle.arith.specs.declared.sampler.Sampled.{Sampled}
 use Rattle.arith.specs.declared.sampler.Sampled.the-variants as sampled
 use Rattle.arith.specs.Packing.{packedNumber, compressNumber, compressAfter, decompressNumber, decompressAfter}
 use Rattle.arith.specs.Product.{productNumber, productAfter}
-use Rattle.arith.specs.Matrix.{plainNumber, timesNumber, timesAfter, transposeNumber, transposeAfter}
-use Rattle.arith.specs.Bytes.{writeNumber, writeAfter}
-use Rattle.arith.specs.Bytes.{parsedNumber, parsedRows, parsedColumns, readNumber, readRows, readColumns, readAfter}
-use Rattle.arith.specs.Codec.{encodedNumber, encodeNumber, encodeAfter}
+use Rattle.arith.specs.Codec.{columnsBad, encodedNumber, encodeNumber, encodeAfter}
 use Rattle.arith.specs.Codec.{decodedNumber, decodedLength, decodeNumber, decodeLength, digestAfter, valueAfter}
 use Rattle.arith.specs.Sampler.{sampledNumber, sampledRead, sampleNumber, sampleRead, sampleAfter, sampleTail}
 
@@ -74,6 +67,9 @@ pub sample-and-return-unread-settled : (interval : ℕ) (words out : List ℕ)
     → OneResult (λ (t : List ℕ). t) (sampleTail interval (length out) words) (sampleAfter interval words out)
 sample-and-return-unread-settled interval words out = one-result (λ t. t) (λ t. t) (λ t. refl) _ _
 
+pub columns-bad-settled : (b columns : ℕ) → OneOutcome (λ (r : Bool). r) (columnsBad b columns)
+columns-bad-settled b columns = one-answer _
+
 abbrev encodedOf : ℕ → Encoded
 encodedOf n = cond (eqb n 0) encoded.Done (cond (eqb n 1) encoded.Width (cond (eqb n 2) encoded.Shape encoded.TooLong))
 
@@ -107,38 +103,3 @@ pub decode-kv-from-row-settled : (b columns : ℕ) (row digest value : List ℕ)
     (decodeNumber b columns row (length digest) (length value), decodeLength b columns row (length digest) (length value))
     (digestAfter b columns row digest value, valueAfter b columns row digest value)
 decode-kv-from-row-settled b columns row digest value = one-result decodedSaid decodedOf decoded-back _ _
-
-abbrev plainOf : ℕ → Plain
-plainOf n = cond (eqb n 0) plain.Done plain.Shape
-
-plain-back : (x : Plain) → plainOf (plainNumber x) ≡ x
-plain-back plain.Done = refl
-plain-back plain.Shape = refl
-
-pub plain-product-settled : (r m c : ℕ) (left right out : List ℕ)
-    → OneResult plainNumber (timesNumber r m c (length left) (length right) (length out)) (timesAfter r m c left right out)
-plain-product-settled r m c left right out = one-result plainNumber plainOf plain-back _ _
-
-pub transpose-settled : (r c : ℕ) (words out : List ℕ)
-    → OneResult plainNumber (transposeNumber r c (length words) (length out)) (transposeAfter r c words out)
-transpose-settled r c words out = one-result plainNumber plainOf plain-back _ _
-
-pub to-bytes-settled : (rows columns : ℕ) (words out : List ℕ)
-    → OneResult plainNumber (writeNumber rows columns (length words) (length out)) (writeAfter rows columns words out)
-to-bytes-settled rows columns words out = one-result plainNumber plainOf plain-back _ _
-
--- the number, and the two dimensions
-abbrev parsedSaid : Parsed → ℕ × ℕ × ℕ
-parsedSaid r = (parsedNumber r, parsedRows r, parsedColumns r)
-
-abbrev parsedOf : ℕ × ℕ × ℕ → Parsed
-parsedOf p = cond (eqb (p .0) 0) (parsed.Matrix (p .1) (p .2)) (cond (eqb (p .0) 11) parsed.Malformed parsed.Shape)
-
-parsed-back : (x : Parsed) → parsedOf (parsedSaid x) ≡ x
-parsed-back (parsed.Matrix r c) = refl
-parsed-back parsed.Malformed = refl
-parsed-back parsed.Shape = refl
-
-pub from-bytes-settled : (bytes out : List ℕ)
-    → OneResult parsedSaid (readNumber bytes (length out), readRows bytes (length out), readColumns bytes (length out)) (readAfter bytes out)
-from-bytes-settled bytes out = one-result parsedSaid parsedOf parsed-back _ _

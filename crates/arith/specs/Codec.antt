@@ -7,7 +7,7 @@ use lib.Dec.{ltb, eqb}
 use Rattle.laws.specs.Refusals.{_⇒_, first, after, outside, widthBad}
 use Rattle.laws.specs.Lists.{part, laid}
 use Rattle.laws.specs.Bits.{bitOf, carried}
-use Rattle.arith.specs.Limits.{elementsBad}
+use Rattle.leaves.specs.Limits.{elementsBad}
 use Rattle.arith.specs.declared.codec.Encoded.{Encoded}
 use Rattle.arith.specs.declared.codec.Encoded.the-variants as encoded
 use Rattle.arith.specs.declared.codec.Decoded.{Decoded}

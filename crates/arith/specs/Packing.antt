@@ -1,13 +1,12 @@
 -- Document 01, "Packing".
 use Prim.Native.Nat.{ℕ, _+_, _*_, _-_, _/_, _%_, _^_, _≤_}
-use mathlib.Core.Bool.{cond}
+use mathlib.Core.Bool.{Bool, cond, not, _||_}
 use mathlib.Core.List.{List, [], _∷_}
 use lib.ListN.{length, getD}
-use lib.Dec.{leb}
-use Rattle.laws.specs.Refusals.{_⇒_, first, after, widthBad}
+use lib.Dec.{leb, ltb, eqb}
+use Rattle.laws.specs.Refusals.{_⇒_, first, after, outside, widthBad}
 use Rattle.laws.specs.Lists.{build, join, part, row, laid}
 use Rattle.laws.specs.Sums.{sum}
-use Rattle.arith.specs.Limits.{shapeBad}
 use Rattle.arith.specs.declared.packing.Packed.{Packed}
 use Rattle.arith.specs.declared.packing.Packed.the-variants.{Done, Width, Shape}
 
@@ -57,6 +56,12 @@ abbrev pub packedNumber : Packed → ℕ
 packedNumber Done = 0
 packedNumber Width = 1
 packedNumber Shape = 2
+
+-- 2, for `rows` rows of k elements that are lent as rows of `from` words and written as rows of `to` words: a dimension
+-- outside its limit, a lent length that is not rows times `from`, or an output shorter than rows times `to`
+unfoldable pub shapeBad : ℕ → ℕ → ℕ → ℕ → ℕ → ℕ → Bool
+shapeBad rows k from to lent room =
+    outside 1 512 rows || outside 1 4096 k || not (eqb lent (rows * from)) || ltb room (rows * to)
 
 -- what packing answers, given lent words and an output of these lengths, and what the output holds then
 unfoldable pub compressNumber : ℕ → ℕ → ℕ → ℕ → ℕ → ℕ

@@ -7,8 +7,7 @@ use lib.Dec.{eqb}
 use Rattle.laws.specs.Refusals.{_⇒_, first, after, widthBad}
 use Rattle.laws.specs.Lists.{build, row, laid}
 use Rattle.laws.specs.Sums.{sum}
-use Rattle.arith.specs.Limits.{shapeBad}
-use Rattle.arith.specs.Packing.{wordsOf, slot, elementOf}
+use Rattle.arith.specs.Packing.{wordsOf, slot, elementOf, shapeBad}
 
 -- the sum over i of v_i times element i of a packed row, modulo 2^32
 unfoldable pub entryOf : ℕ → List ℕ → List ℕ → ℕ

@@ -1,6 +1,6 @@
 // Document 01, "Row codec": a digest and a value as one row of elements of b bits, bit by bit.
-use super::limits;
 use super::packing;
+use leaves::limits;
 ghost use mathlib.Core.Path.{_≡_};
 ghost use Prim.Native.Nat.{_+_, _*_, _-_, _/_, _%_, _^_, _≤_, _<_};
 ghost use mathlib.Core.List.{[], _∷_, _++_};

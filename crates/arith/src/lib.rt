@@ -1,11 +1,6 @@
 // The arithmetic of document 01, below the client. Each public entry refuses bad input by a number of 01, has no
 // `requires`, and says its answer and each lent buffer at exit as an equation with a definition of specs/.
-pub mod bytes;
 pub mod codec;
-pub mod limits;
-pub mod matrix;
 pub mod packing;
-pub mod positions;
 pub mod product;
 pub mod sampler;
-pub mod words;

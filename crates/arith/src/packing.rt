@@ -1,13 +1,13 @@
 // Document 01, "Packing": elements of b bits, two, three or four to a word.
-use super::limits;
+use leaves::limits;
 ghost use mathlib.Core.Path.{_≡_};
-ghost use Prim.Native.Nat.{_*_, _-_, _^_, _≤_, min};
+ghost use Prim.Native.Nat.{_+_, _*_, _-_, _^_, _≤_, min};
 ghost use mathlib.Core.List.{[], _∷_};
 ghost use lib.ListN.{length};
 ghost use Rattle.laws.specs.Refusals.{first, _⇒_};
 ghost use Rattle.laws.specs.Lists.{laid};
 ghost use Rattle.arith.specs.Packing.{factorOf, slotBits, wordsOf, wordOf, packRow, packed, unpackRow, unpacked, Slotted, slots};
-ghost use Rattle.arith.specs.Packing.{packedNumber, compressNumber, compressAfter, decompressNumber, decompressAfter};
+ghost use Rattle.arith.specs.Packing.{shapeBad, packedNumber, compressNumber, compressAfter, decompressNumber, decompressAfter};
 
 // What packing, unpacking and the packed product answer.
 pub enum Packed {
@@ -30,6 +30,31 @@ pub(crate) fn refusal(width: bool, shape: bool) -> Packed
         return Packed::Shape;
     }
     Packed::Done
+}
+
+// 2: rows of k elements, lent as rows of `from` words and written as rows of `to`. A row of k elements takes k words
+// or fewer, and a sum takes one.
+pub(crate) fn shape_bad(
+    rows: usize,
+    k: usize,
+    from: usize,
+    to: usize,
+    lent: usize,
+    room: usize,
+) -> bool
+    requires { ⌜ (from ≤ k + 1) × (to ≤ k + 1) ⌝ }
+    ensures { λ r. ⌜ r ≡ shapeBad rows k from to lent room ⌝ }
+{
+    if limits::out_of(1, 512, rows) {
+        return true;
+    }
+    if limits::out_of(1, 4096, k) {
+        return true;
+    }
+    if lent != rows * from {
+        return true;
+    }
+    room < rows * to
 }
 
 // Slots in a word.
@@ -146,7 +171,7 @@ pub fn row_wise_compress(b: u32, rows: usize, k: usize, words: &[u32], out: &mut
     ensures { λ r. ⌜ packedNumber r ≡ compressNumber b rows k (length (now (words .entry))) (length (now (out .entry))) ⌝ }
     ensures { λ _. ⌜ now (out .exit) ≡ compressAfter b rows k (now (words .entry)) (now (out .entry)) ⌝ }
 {
-    let shape = limits::shape_bad(rows, k, k, words_of(b, k), words.len(), out.len());
+    let shape = shape_bad(rows, k, k, words_of(b, k), words.len(), out.len());
     let answer = refusal(limits::width_bad(b), shape);
     let Packed::Done = answer else {
         return answer;
@@ -212,7 +237,7 @@ pub fn row_wise_decompress(b: u32, rows: usize, k: usize, words: &[u32], out: &m
     ensures { λ r. ⌜ packedNumber r ≡ decompressNumber b rows k (length (now (words .entry))) (length (now (out .entry))) ⌝ }
     ensures { λ _. ⌜ now (out .exit) ≡ decompressAfter b rows k (now (words .entry)) (now (out .entry)) ⌝ }
 {
-    let shape = limits::shape_bad(rows, k, words_of(b, k), k, words.len(), out.len());
+    let shape = shape_bad(rows, k, words_of(b, k), k, words.len(), out.len());
     let answer = refusal(limits::width_bad(b), shape);
     let Packed::Done = answer else {
         return answer;

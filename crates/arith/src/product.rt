@@ -1,21 +1,14 @@
 // Document 01, "Packed product": a vector times the transpose of a packed matrix, unpacked on the way.
-use super::limits;
 use super::packing;
 use super::packing::Packed;
+use leaves::limits;
+use leaves::words;
 ghost use mathlib.Core.Path.{_≡_};
 ghost use Prim.Native.Nat.{_*_, _%_, _^_, _≤_};
 ghost use lib.ListN.{length};
 ghost use Rattle.laws.specs.Lists.{laid};
 ghost use Rattle.arith.specs.Packing.{wordsOf, Slotted, packedNumber};
 ghost use Rattle.arith.specs.Product.{slotSum, entryOf, product, operandsBad, productNumber, productAfter};
-
-// The low 32 bits of a product.
-pub(crate) fn wrapping_mul(x: u32, y: u32) -> u32
-    ensures { λ r. ⌜ r ≡ (x * y) % 2 ^ 32 ⌝ }
-{
-    let wide = x as u64 * y as u64;
-    (wide % 4294967296) as u32
-}
 
 // The elements of `part` times the slots of one word. A slot that `part` does not reach doesn't count.
 fn word_sum(b: u32, w: u32, word: u32, part: &[u32]) -> u32
@@ -27,7 +20,7 @@ fn word_sum(b: u32, w: u32, word: u32, part: &[u32]) -> u32
     let mut shift: u32 = 0;
     let mut s: usize = 0;
     while s < part.len() {
-        let product = wrapping_mul(part[s], (word >> shift) & low);
+        let product = words::wrapping_mul(part[s], (word >> shift) & low);
         acc = std::num::wrapping_add_u32(acc, product);
         shift += w;
         s += 1;
@@ -88,7 +81,7 @@ fn operands_bad(
     if vector != k {
         return true;
     }
-    limits::shape_bad(rows, k, width, 1, lent, room)
+    packing::shape_bad(rows, k, width, 1, lent, room)
 }
 
 // A vector of k words times the transpose of a packed matrix of `rows` rows of k elements, into the start of `out`.

@@ -1,5 +1,5 @@
 // Document 01, "Ternary sampler": random words to 0, 1 and -1, of which 0 has one word more than the others.
-use super::limits;
+use leaves::limits;
 ghost use mathlib.Core.Path.{_≡_};
 ghost use Prim.Native.Nat.{_≤_};
 ghost use mathlib.Core.List.{[], _∷_};

@@ -7,8 +7,8 @@ use lib.Dec.{ltb, eqb}
 use Rattle.laws.specs.Refusals.{_⇒_, first, after, outside, widthBad}
 use Rattle.laws.specs.Lists.{build, splice, laid}
 use Rattle.laws.specs.Sums.{sum}
-use Rattle.arith.specs.Limits.{elementsBad}
-use Rattle.arith.specs.Matrix.{cell}
+use Rattle.leaves.specs.Limits.{elementsBad}
+use Rattle.plain.specs.Matrix.{cell}
 use Rattle.builder.specs.Keys.{Keys, target, lentKeys}
 use Rattle.builder.specs.Placement.{placementBad}
 use Rattle.builder.specs.declared.database.Built.{Built}

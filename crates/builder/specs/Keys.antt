@@ -3,7 +3,7 @@ use Prim.Native.Nat.{ℕ}
 use mathlib.Core.List.{List}
 use lib.ListN.{getD}
 use Rattle.laws.specs.Lists.{row}
-use Rattle.arith.specs.Matrix.{cell}
+use Rattle.plain.specs.Matrix.{cell}
 
 -- by key: element j of its row, mask j, its positions, and which of them is the target's
 pub record Keys : Type 0 where

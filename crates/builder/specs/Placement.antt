@@ -4,7 +4,7 @@ use mathlib.Core.Bool.{Bool, _||_}
 use lib.ListN.{length}
 use lib.Dec.{leb}
 use Rattle.laws.specs.Search.{some}
-use Rattle.arith.specs.Positions.{among, positionsBad}
+use Rattle.leaves.specs.Positions.{among, positionsBad}
 use Rattle.builder.specs.Keys.{Keys, target}
 
 -- q is among the positions of a key written before key i

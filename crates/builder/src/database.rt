@@ -1,8 +1,8 @@
 // Document 01, "Builder": writes each key's target row, in the order proposed, so that a key's four rows and its masks give
 // its row modulo 2^b.
 use super::placement;
-use arith::limits;
-use arith::words;
+use leaves::limits;
+use leaves::words;
 ghost use mathlib.Core.Path.{_≡_};
 ghost use mathlib.Core.Bool.{false, cond};
 ghost use Prim.Native.Nat.{ℕ, _+_, _*_, _%_, _^_, _<_, _≤_};
@@ -12,7 +12,7 @@ ghost use Rattle.laws.specs.Lists.{build, splice};
 ghost use Rattle.builder.specs.Keys.{lentKeys};
 ghost use Rattle.builder.specs.Placement.{placementBad};
 ghost use Rattle.builder.specs.Database.{less, othersSum, database, keysBad};
-ghost use Rattle.arith.specs.Matrix.{cell};
+ghost use Rattle.plain.specs.Matrix.{cell};
 ghost use Rattle.builder.specs.Database.{builtNumber, buildNumber, buildAfter};
 
 // What the builder answers.

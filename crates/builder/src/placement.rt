@@ -1,5 +1,5 @@
 // Document 01, "Builder": the placement check, 15's rule, in time linear in the keys.
-use arith::positions;
+use leaves::positions;
 ghost use mathlib.Core.Path.{_≡_};
 ghost use mathlib.Core.Bool.{false, _||_};
 ghost use mathlib.Core.List.{[]};
@@ -8,7 +8,7 @@ ghost use lib.ListN.{length, getD};
 ghost use lib.Dec.{leb};
 ghost use Rattle.laws.specs.Lists.{row};
 ghost use Rattle.builder.specs.Keys.{lentKeys};
-ghost use Rattle.arith.specs.Positions.{among, positionsBad};
+ghost use Rattle.leaves.specs.Positions.{among, positionsBad};
 ghost use Rattle.builder.specs.Placement.{placementBad};
 
 // The four positions of key i.

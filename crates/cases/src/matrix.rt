@@ -1,8 +1,8 @@
 // Rows for the plain product and the transpose.
 use super::lend;
 use super::print;
-use arith::matrix;
-use arith::matrix::Plain;
+use plain::matrix;
+use plain::matrix::Plain;
 
 pub(crate) fn shape(rows: usize, columns: usize) {
     print::text(b" ");

@@ -1,8 +1,8 @@
 // The store that the client's rows ask: b 8, C 35, R 5, n 2, I 5, and two keys. The first has digest bytes 3, the value
 // [5 6] and positions 0 1 2 3; the second digest bytes 4, the value [7] and positions 4 1 2 3. All masks are 9.
 use arith::codec;
-use arith::matrix;
 use builder::database;
+use plain::matrix;
 
 // A. Its first row is so high at position 0 that a secret of 1 makes the query wrap there.
 pub(crate) fn public_matrix() -> [u32; 10] {

@@ -1,9 +1,9 @@
 // Rows for the pending table: a fresh one, and each way to be malformed.
 use super::print;
-use client::rounding;
 use client::table;
 use client::table::Making;
 use client::table::Table;
+use leaves::rounding;
 
 // Next number, the slots' numbers and the digest bytes.
 pub(crate) fn show(t: Table) {

@@ -15,8 +15,8 @@ use Rattle.laws.specs.Lists.{row, splice}
 use Rattle.laws.proofs.Refusals.{Clear, all-clear, clear-front}
 use Rattle.laws.proofs.Lists.{room}
 use Rattle.laws.proofs.Splice.{row-kept}
-use Rattle.arith.specs.Matrix.{times}
-use Rattle.arith.proofs.matrix.Cells.{length-grid}
+use Rattle.plain.specs.Matrix.{times}
+use Rattle.plain.proofs.matrix.Cells.{length-grid}
 use Rattle.client.specs.declared.table.Table.{Table}
 use Rattle.client.specs.Table.{Sized, malformed, digestPending, full, pending, slotOf, closed, wiped, freshNumber, freshAfter}
 use Rattle.client.specs.Open.{Asked, openTests, wraps, noisyOf, keyOf, openNumber, openOf, openLeft}

@@ -1,12 +1,12 @@
 -- Two results that a contract allows for one input coincide: the answer, the table and each output alike.
 use mathlib.Core.Path.{_≡_, refl, ap}
 use mathlib.Core.List.{List}
-use mathlib.Core.Bool.{cond}
+use mathlib.Core.Bool.{Bool, cond}
 use Prim.Native.Nat.{ℕ}
 use lib.Dec.{eqb}
 use lib.ListN.{length}
 use Rattle.laws.specs.Refusals.{OneResult, OneOutcome}
-use Rattle.laws.proofs.Refusals.{one-result, one-outcome}
+use Rattle.laws.proofs.Refusals.{one-result, one-outcome, one-answer}
 use Rattle.client.specs.declared.table.Table.{Table}
 use Rattle.client.specs.declared.table.Making.{Making}
 use Rattle.client.specs.declared.table.Making.the-variants as making
@@ -23,18 +23,14 @@ use Rattle.client.specs.declared.lines.LineWritten.the-variants as writt
 use Rattle.client.specs.declared.lines.LineRead.{LineRead}
 use Rattle.client.specs.declared.lines.LineRead.the-variants as read
 use Rattle.client.specs.Table.{malformed, makingNumber, freshNumber, freshAfter}
-use Rattle.client.specs.Rounding.{indicatorOf}
 use Rattle.client.specs.Open.{Asked, OpenLeft, openingNumber, openingTicket, openingRead, openSaid, openOf, openLeft}
 use Rattle.client.specs.Reply.{Received, replyingNumber, replyingLength, replySaid, replyOf, replySlab, replyValue}
 use Rattle.client.specs.Discard.{discardingNumber, discardNumber, discardTable, discardSlab}
 use Rattle.client.specs.Lines.{writtenNumber, writtenLength, writeNumber, writeLength, writeAfter}
 use Rattle.client.specs.Lines.{readNumberOf, readTicketOf, readColumnsOf, readNumber, readTicket, readColumns, readAfter}
 
-pub is-malformed-settled : (t : Table) → OneOutcome (λ x. x) (malformed t)
-is-malformed-settled t = one-outcome (λ x. x) (λ x. x) (λ x. refl) _
-
-pub calculate-query-indicator-settled : (b : ℕ) → OneOutcome (λ (x : ℕ). x) (indicatorOf b)
-calculate-query-indicator-settled b = one-outcome (λ x. x) (λ x. x) (λ x. refl) _
+pub is-malformed-settled : (t : Table) → OneOutcome (λ (x : Bool). x) (malformed t)
+is-malformed-settled t = one-answer _
 
 -- A fresh table: the number and the table.
 

@@ -7,7 +7,7 @@ use lib.Dec.{ltb, eqb}
 use Rattle.laws.specs.Refusals.{_⇒_, first, after, outside}
 use Rattle.laws.specs.Lists.{build, join, laid}
 use Rattle.laws.specs.Search.{some}
-use Rattle.arith.specs.Bytes.{wordBytes, matrixBytes, wordAt}
+use Rattle.plain.specs.Bytes.{wordBytes, matrixBytes, wordAt}
 use Rattle.client.specs.declared.lines.LineWritten.{LineWritten}
 use Rattle.client.specs.declared.lines.LineWritten.the-variants as written
 use Rattle.client.specs.declared.lines.LineRead.{LineRead}

@@ -7,11 +7,11 @@ use lib.Dec.{ltb, leb, eqb}
 use Rattle.laws.specs.Refusals.{Test, _⇒_, first, after, outside}
 use Rattle.laws.specs.Lists.{build, splice, laid}
 use Rattle.laws.specs.Search.{some}
-use Rattle.arith.specs.Matrix.{times}
-use Rattle.arith.specs.Positions.{among, positionsBad}
+use Rattle.plain.specs.Matrix.{times}
+use Rattle.leaves.specs.Positions.{among, positionsBad}
 use Rattle.arith.specs.Sampler.{given, shortest, tooFew}
 use Rattle.client.specs.Table.{malformed, digestPending, full, slotOf, taken}
-use Rattle.client.specs.Rounding.{delta}
+use Rattle.leaves.specs.Rounding.{delta}
 use Rattle.client.specs.declared.table.Table.{Table}
 use Rattle.client.specs.declared.open.Opening.{Opening}
 use Rattle.client.specs.declared.open.Opening.the-variants as opening

@@ -7,9 +7,10 @@ use lib.Dec.{ltb, eqb}
 use Rattle.laws.specs.Refusals.{Test, _⇒_, first, after}
 use Rattle.laws.specs.Lists.{build, row, laid}
 use Rattle.arith.specs.Codec.{valueRoom, markerBad, valueLength, digestOf, valueOf}
-use Rattle.arith.specs.Limits.{elementsBad}
-use Rattle.client.specs.Table.{digestAt, differs, malformed, pending, slotOf, closed, wiped}
-use Rattle.client.specs.Rounding.{rounded}
+use Rattle.leaves.specs.Limits.{elementsBad}
+use Rattle.leaves.specs.Digests.{differs}
+use Rattle.client.specs.Table.{digestAt, malformed, pending, slotOf, closed, wiped}
+use Rattle.leaves.specs.Rounding.{rounded}
 use Rattle.client.specs.declared.table.Table.{Table}
 use Rattle.client.specs.declared.reply.Reply.{Reply}
 use Rattle.client.specs.declared.reply.Reply.the-variants as reply

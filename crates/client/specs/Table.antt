@@ -9,6 +9,7 @@ use lib.Dec.{leb, eqb}
 use Rattle.laws.specs.Refusals.{_⇒_, first, after, widthBad}
 use Rattle.laws.specs.Lists.{row, splice}
 use Rattle.laws.specs.Search.{some, lowest}
+use Rattle.leaves.specs.Digests.{differs}
 use Rattle.arith.specs.Codec.{columnsBad}
 use Rattle.client.specs.declared.table.Table.{Table}
 use Rattle.client.specs.declared.table.Making.{Making}
@@ -28,10 +29,6 @@ digestAt t s = row 32 (t .digests) s
 
 abbrev pub used : Table → ℕ → Bool
 used t s = not (eqb (numberAt t s) 0)
-
--- two digests differ in any of their 32 bytes
-unfoldable pub differs : List ℕ → List ℕ → Bool
-differs x y = some 32 (λ k. not (eqb (getD x k 0) (getD y k 0)))
 
 -- slots q and s are both used, and equal in number or digest
 unfoldable pub alike : Table → ℕ → ℕ → Bool

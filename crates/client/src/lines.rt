@@ -1,13 +1,13 @@
 // Document 01, "Lines": the client writes query lines and reads response lines, each a frame in lowercase hexadecimal.
-use arith::bytes;
-use arith::limits;
+use leaves::limits;
+use plain::bytes;
 ghost use mathlib.Core.Path.{_≡_};
 ghost use mathlib.Core.Bool.{false};
 ghost use mathlib.Core.List.{[], _∷_};
 ghost use Prim.Native.Nat.{_+_, _*_, _/_, _%_, _<_, _≤_};
 ghost use lib.ListN.{length, getD};
 ghost use Rattle.laws.specs.Lists.{laid};
-ghost use Rattle.arith.specs.Bytes.{wordBytes, allBytes, wordAt};
+ghost use Rattle.plain.specs.Bytes.{wordBytes, allBytes, wordAt};
 ghost use Rattle.client.specs.Lines.{digit, hex, frame, lineLength, writtenNumber, writtenLength, writeNumber, writeLength, writeAfter};
 ghost use Rattle.client.specs.Lines.{digitValue, unhex, bodyOf, lineColumns, lineWords, digitsBad, lineBad};
 ghost use Rattle.client.specs.Lines.{readNumberOf, readTicketOf, readColumnsOf, readNumber, readTicket, readColumns, readAfter};

@@ -1,9 +1,10 @@
 // Document 01, "Reply": a response to a pending ticket gives the stored value, or a numbered refusal.
-use super::rounding;
 use super::table;
 use super::table::Table;
 use arith::codec;
 use arith::codec::Decoded;
+use leaves::digests;
+use leaves::rounding;
 ghost use mathlib.Core.Path.{_≡_};
 ghost use mathlib.Core.Bool.{false, not};
 ghost use mathlib.Core.List.{[], _∷_};
@@ -144,7 +145,7 @@ fn read_row(table: Table, slot: usize, row: &[u32], value: &mut [u8]) -> Reply
     let Decoded::Value(n) = decoded else {
         return refused(decoded);
     };
-    if table::digest_differs(digest, table::digest_of(table, slot)) {
+    if digests::digest_differs(digest, table::digest_of(table, slot)) {
         return Reply::Digest;
     }
     copy(&found[..n], value);

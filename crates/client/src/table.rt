@@ -1,7 +1,8 @@
 // Document 01, "Pending table": 64 slots by value. Their secrets lie in a lent slab, which is not part of the table.
 use arith::codec;
-use arith::limits;
-use arith::words;
+use leaves::digests;
+use leaves::limits;
+use leaves::words;
 ghost use mathlib.Core.Path.{_≡_};
 ghost use mathlib.Core.Bool.{not, _&&_};
 ghost use Prim.Native.Nat.{_+_, _*_, _<_, _≤_};
@@ -9,7 +10,8 @@ ghost use lib.ListN.{length, replicate};
 ghost use lib.Dec.{leb};
 ghost use Rattle.laws.specs.Lists.{splice};
 ghost use Rattle.laws.specs.Search.{some};
-ghost use Rattle.client.specs.Table.{numberAt, digestAt, used, differs, alike, malformed};
+ghost use Rattle.leaves.specs.Digests.{differs};
+ghost use Rattle.client.specs.Table.{numberAt, digestAt, used, alike, malformed};
 ghost use Rattle.client.specs.Table.{slotOf, pending, digestPending, taken, closed, wiped, makingNumber, freshNumber, freshTable, freshAfter};
 
 pub struct Table {
@@ -87,20 +89,6 @@ pub(crate) fn digest_of(table: Table, s: usize) -> [u8; 32]
     digest
 }
 
-// Do two digests differ in any byte? Each byte counts by itself, none is folded into another; and all are read, so that the
-// time taken does not tell where they differ.
-pub(crate) fn digest_differs(x: [u8; 32], y: [u8; 32]) -> bool
-    ensures { λ r. ⌜ r ≡ differs x y ⌝ }
-{
-    let mut apart = false;
-    let mut k: usize = 0;
-    while k < 32 {
-        apart = apart | (x[k] != y[k]);
-        k += 1;
-    }
-    apart
-}
-
 // A used number at or above next?
 fn number_ahead(table: Table) -> bool
     ensures { λ r. ⌜ r ≡ some 64 (λ s. used table s && leb (table .next) (numberAt table s)) ⌝ }
@@ -129,7 +117,7 @@ fn both_alike(table: Table, q: usize, s: usize) -> bool
     if table.numbers[q] == table.numbers[s] {
         return true;
     }
-    !digest_differs(digest_of(table, q), digest_of(table, s))
+    !digests::digest_differs(digest_of(table, q), digest_of(table, s))
 }
 
 // Is slot s alike to one before it?
@@ -167,7 +155,7 @@ fn free_unclean(table: Table) -> bool
 {
     let mut s: usize = 0;
     while s < 64 {
-        if table.numbers[s] == 0 && digest_differs(digest_of(table, s), [0u8; 32]) {
+        if table.numbers[s] == 0 && digests::digest_differs(digest_of(table, s), [0u8; 32]) {
             return true;
         }
         s += 1;
@@ -227,7 +215,7 @@ pub(crate) fn digest_pending(table: Table, digest: [u8; 32]) -> bool
 {
     let mut s: usize = 0;
     while s < 64 {
-        if table.numbers[s] != 0 && !digest_differs(digest_of(table, s), digest) {
+        if table.numbers[s] != 0 && !digests::digest_differs(digest_of(table, s), digest) {
             return true;
         }
         s += 1;

@@ -1,8 +1,8 @@
 // The store: b 14, n 1, R 5, C 20, and one key of digest bytes 3, value [5 6], masks 9, positions 0 1 2 3 and target 2.
 use arith::codec;
-use arith::matrix;
 use builder::database;
 use client::lines;
+use plain::matrix;
 
 // A.
 pub(crate) fn public_matrix() -> [u32; 5] {

@@ -88,6 +88,10 @@ pub one-outcome : {A B : Type 0} (said : A → B) (told : B → A) → ((x : A) 
     → OneOutcome said v
 one-outcome said told back v r s p q = sym (back r) ∙ ap told (p ∙ sym q) ∙ back s
 
+-- a result that is the value itself
+pub one-answer : {A : Type 0} (v : A) → OneOutcome (λ (x : A). x) v
+one-answer v r s p q = p ∙ sym q
+
 -- and so do the outputs beside them
 pub one-result : {A B C : Type 0} (said : A → B) (told : B → A) → ((x : A) → told (said x) ≡ x) → (v : B) (after : C)
     → OneResult said v after

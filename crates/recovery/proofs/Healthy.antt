@@ -9,8 +9,8 @@ use lib.ListN.{length, replicate, length-replicate}
 use Rattle.laws.specs.Lists.{splice}
 use Rattle.laws.proofs.Lists.{room}
 use Rattle.laws.proofs.Splice.{length-splice}
-use Rattle.arith.specs.Matrix.{times}
-use Rattle.arith.proofs.matrix.Cells.{length-grid}
+use Rattle.plain.specs.Matrix.{times}
+use Rattle.plain.proofs.matrix.Cells.{length-grid}
 use Rattle.client.specs.Table.{Sized, malformed, slotOf, freshNumber}
 use Rattle.client.specs.Open.{Asked, keyOf}
 use Rattle.client.proofs.table.Lengths.{fresh-sized, taken-sized, closed-sized}

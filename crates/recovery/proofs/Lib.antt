@@ -14,4 +14,3 @@ pub mod Held
 pub mod Gone
 pub mod Touched
 pub mod Demand
-pub mod Example

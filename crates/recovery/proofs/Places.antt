@@ -13,8 +13,8 @@ use Rattle.laws.specs.Search.{some}
 use Rattle.laws.specs.Sums.{sum}
 use Rattle.laws.proofs.Search.{some-false}
 use Rattle.laws.proofs.Sums.{sum-ext, sum-mul, sum-apart}
-use Rattle.arith.specs.Positions.{among, positionsBad}
-use Rattle.arith.proofs.positions.Distinct.{below, distinct}
+use Rattle.leaves.specs.Positions.{among, positionsBad}
+use Rattle.leaves.proofs.positions.Distinct.{below, distinct}
 
 module _ (r : ℕ) (ps : List ℕ) (good : positionsBad r ps ≡ false) (f : ℕ → ℕ) where
   -- row i is among the first k positions

@@ -15,9 +15,9 @@ use Rattle.laws.proofs.Lists.{length-build, getD-build}
 use Rattle.laws.proofs.Filling.{take-laid}
 use Rattle.laws.proofs.Below.{each-below}
 use Rattle.laws.proofs.Search.{lowest-holds, some-lowest}
-use Rattle.arith.specs.Positions.{among, positionsBad}
+use Rattle.leaves.specs.Positions.{among, positionsBad}
 use Rattle.client.specs.Open.{Asked, shapeBad, openTests, wraps, noisy, noisyOf, marked, openNumber, openLeft}
-use Rattle.client.specs.Rounding.{delta}
+use Rattle.leaves.specs.Rounding.{delta}
 use Rattle.client.proofs.open.Marks.{no-wrap}
 
 module _ (a : Asked) (opened : openNumber a ≡ 0) where

@@ -10,7 +10,7 @@ use lib.Pow.{pow-pos, pow-add}
 use borrow.Author.Tests.{lt-ltb, le-ltb}
 use Rattle.laws.specs.Sums.{Cong}
 use Rattle.laws.proofs.Sums.{cong-trans, cong-wrap, mod-out, mod-in}
-use Rattle.client.specs.Rounding.{delta, rounded}
+use Rattle.leaves.specs.Rounding.{delta, rounded}
 use Rattle.recovery.proofs.Noise.{Small}
 
 -- 1 where the remainder r exceeds half of the step

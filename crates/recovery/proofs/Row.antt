@@ -11,12 +11,12 @@ use Rattle.laws.specs.Sums.{sum, Cong}
 use Rattle.laws.proofs.Lists.{length-build, getD-build, build-ext}
 use Rattle.laws.proofs.Refusals.{inside}
 use Rattle.laws.proofs.Sums.{sum-ext, sum-plus, sum-mul, cong-eq, cong-sym, cong-trans, cong-wrap, cong-add, cong-mul-right, cong-sum, mod-in}
-use Rattle.arith.specs.Matrix.{cell, times}
-use Rattle.arith.specs.Positions.{among, positionsBad}
-use Rattle.arith.proofs.matrix.Cells.{length-grid, cell-times}
-use Rattle.arith.proofs.matrix.Associates.{times-associates}
+use Rattle.plain.specs.Matrix.{cell, times}
+use Rattle.leaves.specs.Positions.{among, positionsBad}
+use Rattle.plain.proofs.matrix.Cells.{length-grid, cell-times}
+use Rattle.plain.proofs.matrix.Associates.{times-associates}
 use Rattle.builder.specs.Database.{rowsSum}
-use Rattle.client.specs.Rounding.{delta, rounded}
+use Rattle.leaves.specs.Rounding.{delta, rounded}
 use Rattle.client.specs.Open.{noisy, marked}
 use Rattle.client.specs.Reply.{lessWord, recovered}
 use Rattle.recovery.specs.Store.{Store, Sound, Calm, hintOf, served, wanted}

@@ -17,17 +17,18 @@ use Rattle.laws.proofs.Filling.{take-laid}
 use Rattle.laws.proofs.Refusals.{written}
 use Rattle.laws.proofs.Search.{some-false}
 use Rattle.arith.specs.Codec.{valueRoom, rowOf, encodeNumber, valueLength, valueOf}
-use Rattle.arith.specs.Matrix.{cell}
+use Rattle.plain.specs.Matrix.{cell}
 use Rattle.arith.proofs.codec.Answers.{taken, accepted}
 use Rattle.arith.proofs.codec.RoundTrip.{ReadBack, read-back}
-use Rattle.arith.proofs.matrix.Cells.{row-cell}
+use Rattle.plain.proofs.matrix.Cells.{row-cell}
 use Rattle.builder.specs.Keys.{Keys, lentKeys}
 use Rattle.builder.specs.Database.{rowsSum, database, buildNumber, buildAfter}
 use Rattle.builder.proofs.database.Answers as builder
 use Rattle.builder.proofs.database.Law.{length-database, key-row}
 use Rattle.builder.proofs.database.Success.{built-row}
 use Rattle.client.specs.declared.table.Table.{Table}
-use Rattle.client.specs.Table.{digestAt, differs}
+use Rattle.leaves.specs.Digests.{differs}
+use Rattle.client.specs.Table.{digestAt}
 use Rattle.client.specs.Reply.{rowNumber}
 use Rattle.client.proofs.reply.Reading.{Readable, room-most, digest-left}
 use Rattle.recovery.specs.Store.{Store, wanted}

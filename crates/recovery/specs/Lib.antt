@@ -3,4 +3,3 @@ pub mod Noise
 pub mod Store
 pub mod Run
 pub mod Demand
-pub mod Example

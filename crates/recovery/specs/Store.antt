@@ -8,8 +8,8 @@ use lib.ListN.{length, getD}
 use Rattle.laws.specs.Lists.{build}
 use Rattle.laws.specs.Refusals.{widthBad}
 use Rattle.arith.specs.Codec.{columnsBad}
-use Rattle.arith.specs.Limits.{elementsBad}
-use Rattle.arith.specs.Matrix.{times, cell}
+use Rattle.leaves.specs.Limits.{elementsBad}
+use Rattle.plain.specs.Matrix.{times, cell}
 use Rattle.builder.specs.Database.{rowsSum}
 use Rattle.client.specs.Lines.{frame, lineTicket, lineWords}
 use Rattle.recovery.specs.Noise.{noise, Quiet}

@@ -16,7 +16,7 @@ use Rattle.arith.specs.declared.codec.Encoded.{Encoded}
 use Rattle.arith.specs.declared.codec.Encoded.the-variants as encoded
 use Rattle.arith.specs.declared.codec.Decoded.{Decoded}
 use Rattle.arith.specs.declared.codec.Decoded.the-variants as decoded
-use Rattle.arith.specs.Limits.{elementsBad}
+use Rattle.leaves.specs.Limits.{elementsBad}
 use Rattle.arith.specs.Codec.{valueRoom, columnsBad, encodedNumber, encodeNumber}
 use Rattle.arith.specs.Codec.{bytesOf, recordEnd, markerBad, readerBad, decodedNumber, decodeNumber}
 use Rattle.arith.proofs.codec.Encoded as written

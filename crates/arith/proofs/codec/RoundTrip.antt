@@ -15,7 +15,7 @@ use Rattle.laws.specs.Bits.{bitOf, carried}
 use Rattle.laws.proofs.Refusals.{inside}
 use Rattle.laws.proofs.Search.{some-false}
 use Rattle.laws.proofs.Bits.{bit-lt, gathered-lt, length-carried, getD-carried, bit-carried, carried-ext, carried-bits}
-use Rattle.arith.specs.Limits.{anyAbove, elementsBad}
+use Rattle.leaves.specs.Limits.{anyAbove, elementsBad}
 use Rattle.arith.specs.Codec.{bytesIn, valueRoom, recordOf, rowOf, encodeNumber}
 use Rattle.arith.specs.Codec.{bytesOf, endOf, markerBad, readerBad, valueLength, digestOf, valueOf, decodeNumber}
 use Rattle.arith.proofs.codec.Sizes.{sized}

@@ -10,7 +10,7 @@ use types.Run.{OneOf}
 use denote.Enum.Declared.{tagOf}
 use Rattle.laws.specs.Refusals.{_⇒_, widthBad}
 use Rattle.laws.proofs.Refusals.{passed, inside}
-use Rattle.arith.specs.Limits.{elementsBad}
+use Rattle.leaves.specs.Limits.{elementsBad}
 use Rattle.builder.specs.declared.database.Built.{Built}
 use Rattle.builder.specs.declared.database.Built.the-variants.{Done, Width, Shape, Element, Placement}
 use Rattle.builder.specs.Keys.{lentKeys}

@@ -16,9 +16,9 @@ use Rattle.laws.proofs.Search.{none-holds}
 use Rattle.laws.proofs.Splice.{length-splice, row-same, row-other}
 use Rattle.laws.proofs.Sums.{sum-ext, sum-apart, cong-eq, cong-wrap, cong-add, cong-trans, mod-in}
 use Rattle.laws.proofs.Below.{Below, below-at, below-replicate, below-build, below-splice}
-use Rattle.arith.specs.Matrix.{cell}
-use Rattle.arith.specs.Positions.{among}
-use Rattle.arith.proofs.positions.Distinct.{below, distinct}
+use Rattle.plain.specs.Matrix.{cell}
+use Rattle.leaves.specs.Positions.{among}
+use Rattle.leaves.proofs.positions.Distinct.{below, distinct}
 use Rattle.builder.specs.Keys.{Keys, target}
 use Rattle.builder.specs.Placement.{seenBefore, placementBad}
 use Rattle.builder.specs.Database.{less, rowsSum, othersSum, targetRow, database}

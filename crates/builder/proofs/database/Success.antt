@@ -14,9 +14,9 @@ use Rattle.laws.proofs.Lists.{room}
 use Rattle.laws.proofs.Refusals.{written}
 use Rattle.laws.proofs.Search.{none-holds}
 use Rattle.laws.proofs.Sums.{sum-ext}
-use Rattle.arith.specs.Limits.{anyAbove, elementsBad}
-use Rattle.arith.specs.Matrix.{cell}
-use Rattle.arith.proofs.positions.Distinct.{below}
+use Rattle.leaves.specs.Limits.{anyAbove, elementsBad}
+use Rattle.plain.specs.Matrix.{cell}
+use Rattle.leaves.proofs.positions.Distinct.{below}
 use Rattle.builder.specs.Keys.{Keys, lentKeys}
 use Rattle.builder.specs.Placement.{placementBad}
 use Rattle.builder.specs.Database.{rowsSum, database, buildNumber, buildAfter}

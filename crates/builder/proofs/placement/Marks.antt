@@ -11,7 +11,7 @@ use lib.ListN.{length, getD, set, replicate, length-set}
 use lib.Seq.{getD-set-same, getD-set-other}
 use borrow.Author.Tests.{eq-eqb, ne-eqb}
 use Rattle.laws.specs.Search.{some}
-use Rattle.arith.specs.Positions.{among, positionsBad}
+use Rattle.leaves.specs.Positions.{among, positionsBad}
 use Rattle.builder.specs.Keys.{Keys, target}
 use Rattle.builder.specs.Placement.{seenBefore, keyBad}
 

@@ -8,7 +8,7 @@ use lib.ListN.{length}
 use borrow.Author.Tests.{leb-false}
 use Rattle.laws.proofs.Refusals.{neither}
 use Rattle.laws.proofs.Search.{none-holds}
-use Rattle.arith.specs.Positions.{positionsBad}
+use Rattle.leaves.specs.Positions.{positionsBad}
 use Rattle.builder.specs.Keys.{Keys, target, lentKeys}
 use Rattle.builder.specs.Placement.{seenBefore, keyBad, placementBad}
 

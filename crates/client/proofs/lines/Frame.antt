@@ -4,8 +4,8 @@ use mathlib.Core.List.{List, [], _∷_, _++_, append-assoc}
 use Prim.Native.Nat.{ℕ}
 use lib.ListN.{length}
 use Rattle.laws.specs.Lists.{join}
-use Rattle.arith.specs.Bytes.{allBytes, matrixBytes}
-use Rattle.arith.proofs.bytes.Words.{bytes-append}
+use Rattle.plain.specs.Bytes.{allBytes, matrixBytes}
+use Rattle.plain.proofs.bytes.Words.{bytes-append}
 use Rattle.client.specs.Lines.{hex, frameBytes, frame}
 use Rattle.client.proofs.lines.Hex.{hex-append}
 

@@ -7,8 +7,8 @@ use lib.ListN.{length, getD, length-append, List·getD-append}
 use lib.Seq.{getD-append-add}
 use Rattle.laws.specs.Lists.{join}
 use Rattle.laws.proofs.Lists.{length-build, length-join, join-add, join-ext}
-use Rattle.arith.specs.Bytes.{wordBytes, allBytes}
-use Rattle.arith.proofs.bytes.Words.{length-bytes}
+use Rattle.plain.specs.Bytes.{wordBytes, allBytes}
+use Rattle.plain.proofs.bytes.Words.{length-bytes}
 use Rattle.client.specs.Lines.{digit, hex}
 
 -- the two digits of a byte

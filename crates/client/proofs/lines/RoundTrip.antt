@@ -11,9 +11,9 @@ use Rattle.laws.proofs.Refusals.{within}
 use Rattle.laws.proofs.Lists.{length-build, getD-build, build-ext, build-getD, build-add, join-ext, join-build}
 use Rattle.laws.proofs.Below.{each-below}
 use Rattle.laws.proofs.Digits.{digit-together}
-use Rattle.arith.specs.Bytes.{wordBytes, allBytes, wordAt}
-use Rattle.arith.proofs.bytes.Words.{length-bytes}
-use Rattle.arith.proofs.bytes.RoundTrip.{byte-lt, word-at}
+use Rattle.plain.specs.Bytes.{wordBytes, allBytes, wordAt}
+use Rattle.plain.proofs.bytes.Words.{length-bytes}
+use Rattle.plain.proofs.bytes.RoundTrip.{byte-lt, word-at}
 use Rattle.client.specs.Lines.{hex, frame, lineLength, unhex, bodyOf, lineTicket, lineColumns, lineWords, lineBad}
 use Rattle.client.proofs.lines.Hex.{length-hex}
 use Rattle.client.proofs.lines.Frame.{frame-line}

@@ -13,7 +13,7 @@ use denote.Enum.Declared.{tagOf}
 use Rattle.laws.specs.Refusals.{Test, _⇒_, first, after, outside}
 use Rattle.laws.specs.Lists.{splice, laid}
 use Rattle.laws.proofs.Refusals.{refused-before, Clear, all-clear, clear-before, not-answered}
-use Rattle.arith.specs.Positions.{positionsBad}
+use Rattle.leaves.specs.Positions.{positionsBad}
 use Rattle.client.specs.declared.table.Table.{Table}
 use Rattle.client.specs.declared.open.Opening.{Opening}
 use Rattle.client.specs.declared.open.Opening.the-variants as opening

@@ -9,9 +9,9 @@ use lib.ListN.{length}
 use borrow.Author.Tests.{le-ltb, eq-eqb}
 use Rattle.laws.proofs.Refusals.{within, written}
 use Rattle.laws.proofs.Filling.{laid-whole}
-use Rattle.arith.specs.Limits.{matrixBad}
-use Rattle.arith.specs.Matrix.{times, timesNumber, timesAfter}
-use Rattle.arith.proofs.matrix.Cells.{length-grid}
+use Rattle.plain.specs.Matrix.{matrixBad}
+use Rattle.plain.specs.Matrix.{times, timesNumber, timesAfter}
+use Rattle.plain.proofs.matrix.Cells.{length-grid}
 
 matrix-good : (rows columns lent : ℕ) → (1 ≤ rows) × (rows ≤ 4096) → (1 ≤ columns) × (columns ≤ 4096) → lent ≡ rows * columns
     → matrixBad rows columns lent ≡ false

@@ -10,8 +10,8 @@ use Rattle.laws.specs.Lists.{build, row}
 use Rattle.laws.specs.Sums.{sum}
 use Rattle.laws.proofs.Lists.{length-build, getD-build, build-ext, build-getD}
 use Rattle.laws.proofs.Sums.{sum-ext, cong-eq, cong-wrap, cong-add, wrap-add}
-use Rattle.arith.specs.Matrix.{cell, times}
-use Rattle.arith.proofs.matrix.Cells.{row-cell, cell-times}
+use Rattle.plain.specs.Matrix.{cell, times}
+use Rattle.plain.proofs.matrix.Cells.{row-cell, cell-times}
 use Rattle.client.specs.Open.{noisy}
 
 -- s_0 A_0j + .. + s_(i-1) A_(i-1)j, for a matrix of r columns

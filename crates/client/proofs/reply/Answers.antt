@@ -12,7 +12,7 @@ use denote.Enum.Declared.{tagOf}
 use Rattle.laws.specs.Refusals.{Test, _⇒_, first, after}
 use Rattle.laws.specs.Lists.{row, laid}
 use Rattle.laws.proofs.Refusals.{neither, refused-before, Clear, all-clear, clear-before, not-answered, kept}
-use Rattle.arith.specs.Limits.{elementsBad}
+use Rattle.leaves.specs.Limits.{elementsBad}
 use Rattle.arith.specs.Codec.{valueRoom, markerBad, valueLength, valueOf}
 use Rattle.client.specs.declared.table.Table.{Table}
 use Rattle.client.specs.declared.reply.Reply.{Reply}

@@ -10,7 +10,7 @@ use Rattle.laws.specs.Refusals.{Test, _⇒_, first}
 use Rattle.laws.proofs.Refusals.{within, refused-before, all-clear, clear-before, written}
 use Rattle.laws.proofs.Lists.{length-part}
 use Rattle.laws.proofs.Filling.{laid-whole, take-laid}
-use Rattle.arith.specs.Limits.{elementsBad}
+use Rattle.leaves.specs.Limits.{elementsBad}
 use Rattle.arith.specs.Codec.{bytesIn, valueRoom, columnsBad, bytesOf, markerBad, valueLength, digestOf, valueOf}
 use Rattle.arith.specs.Codec.{readerBad, decodeNumber, digestAfter, valueAfter}
 use Rattle.arith.proofs.codec.Sizes.{sized, few-bits}

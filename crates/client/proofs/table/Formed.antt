@@ -16,9 +16,11 @@ use Rattle.laws.proofs.Refusals.{neither, passed, same-test}
 use Rattle.laws.proofs.Search.{some-ext, some-false, none-holds}
 use Rattle.arith.specs.Codec.{columnsBad}
 use Rattle.arith.proofs.codec.Sizes.{sized as columns-sized}
-use Rattle.client.specs.Table.{Sized, numberAt, digestAt, used, differs, alike, malformed, slotOf, digestPending, full, taken, closed, freshTable, freshNumber}
+use Rattle.leaves.specs.Digests.{differs}
+use Rattle.client.specs.Table.{Sized, numberAt, digestAt, used, alike, malformed, slotOf, digestPending, full, taken, closed, freshTable, freshNumber}
 use Rattle.client.specs.declared.table.Table.{Table}
-use Rattle.client.proofs.table.Tests.{unequal, ahead, repeated, unclean, holding, put}
+use Rattle.leaves.specs.Digests.{unequal}
+use Rattle.client.proofs.table.Tests.{ahead, repeated, unclean, holding, put}
 use Rattle.client.proofs.table.Slots.{slot-free, Kept, number-here, digest-here, put-others}
 
 -- none of 01's tests holds

@@ -6,12 +6,9 @@ use lib.Dec.{leb, eqb}
 use lib.ListN.{getD, set, replicate}
 use Rattle.laws.specs.Lists.{splice}
 use Rattle.laws.specs.Search.{some}
-use Rattle.client.specs.Table.{numberAt, digestAt, used, differs, alike}
+use Rattle.leaves.specs.Digests.{differs}
+use Rattle.client.specs.Table.{numberAt, digestAt, used, alike}
 use Rattle.client.specs.declared.table.Table.{Table}
-
--- byte k of two digests
-abbrev pub unequal : List ℕ → List ℕ → ℕ → Bool
-unequal x y k = not (eqb (getD x k 0) (getD y k 0))
 
 abbrev pub numbered : Table → ℕ → ℕ → Bool
 numbered t number s = eqb (numberAt t s) number

@@ -8,7 +8,7 @@ use borrow.Author.Tests.{lt-ltb, le-ltb, eq-eqb, ne-eqb}
 use borrow.Author.Needs.{needs}
 use Rattle.laws.specs.Refusals.{widthBad}
 use Rattle.laws.proofs.Refusals.{inside, kept, written}
-use Rattle.arith.specs.Limits.{anyAbove, elementsBad}
+use Rattle.leaves.specs.Limits.{anyAbove, elementsBad}
 use Rattle.arith.specs.Codec.{bytesIn, bytesOf, recordEnd, markerBad, readerBad, decodeNumber, decodeLength}
 use Rattle.arith.proofs.codec.Answers.{Lent, lent}
 use Rattle.arith.proofs.codec.Bytes.{end-le}

@@ -8,9 +8,9 @@ use lib.ListN.{length}
 use borrow.Author.Needs.{needs}
 use Rattle.laws.specs.Refusals.{_⇒_, first}
 use Rattle.laws.proofs.Refusals.{kept, written}
-use Rattle.arith.specs.Limits.{shapeBad}
+use Rattle.arith.specs.Packing.{shapeBad}
 use Rattle.arith.specs.Packing.{packedNumber, decompressNumber}
-use Rattle.arith.proofs.limits.Shapes.{shaped}
+use Rattle.arith.proofs.packing.Shapes.{shaped}
 use Rattle.arith.proofs.packing.Answers.{refusing, accepted}
 use Rattle.arith.proofs.packing.Sizes.{words-le}
 use Rattle.arith.proofs.packing.row_wise_decompress.Statement.{statement}

@@ -14,7 +14,7 @@ use mathlib.Core.Bool.{not}
 use Rattle.laws.proofs.Refusals.{neither}
 use Rattle.arith.specs.Packing.{wordsOf, packedNumber}
 use Rattle.arith.specs.Product.{operandsBad, productNumber}
-use Rattle.arith.proofs.limits.Shapes.{shaped}
+use Rattle.arith.proofs.packing.Shapes.{shaped}
 use Rattle.arith.proofs.packing.Answers.{refusing, accepted}
 use Rattle.arith.proofs.packing.Sizes.{words-le}
 use Rattle.arith.proofs.product.row_vector_x_compressed_transposed_matrix.Statement.{statement}

@@ -10,7 +10,7 @@ use lib.ListN.{length, getD}
 use borrow.Author.Needs.{needs}
 use Rattle.laws.specs.Sums.{sum}
 use Rattle.laws.proofs.Sums.{cong-eq, wrap-add}
-use Rattle.arith.specs.Matrix.{cell}
+use Rattle.plain.specs.Matrix.{cell}
 use Rattle.builder.proofs.database.others_sum.Statement.{statement}
 use Rattle.builder.proofs.database.others_sum.Tie as tie
 

@@ -10,8 +10,8 @@ use borrow.Author.Needs.{needs}
 use borrow.Rule.Slice.PartMut.{same-len-mid}
 use Rattle.laws.specs.Lists.{part, row}
 use Rattle.laws.proofs.Lists.{room, row-lent, length-row, getD-part}
-use Rattle.arith.specs.Positions.{positionsBad}
-use Rattle.arith.proofs.positions.Distinct.{below}
+use Rattle.leaves.specs.Positions.{positionsBad}
+use Rattle.leaves.proofs.positions.Distinct.{below}
 use Rattle.builder.specs.Keys.{lentKeys}
 use Rattle.builder.specs.Database.{database}
 use Rattle.builder.proofs.placement.Rule.{Fine, each-fine}

@@ -7,7 +7,7 @@ use lib.Pow.{pow-pos}
 use borrow.Author.Needs.{needs}
 use Rattle.laws.specs.Refusals.{widthBad}
 use Rattle.laws.proofs.Refusals.{inside}
-use Rattle.arith.specs.Limits.{anyAbove, elementsBad}
+use Rattle.leaves.specs.Limits.{anyAbove, elementsBad}
 use Rattle.builder.specs.Keys.{lentKeys}
 use Rattle.builder.specs.Placement.{placementBad}
 use Rattle.builder.specs.Database.{keysBad, buildNumber}

@@ -6,8 +6,8 @@ use lib.Dec.{leb}
 use lib.ListN.{length}
 use borrow.Author.Needs.{needs}
 use borrow.Author.Tests.{le-leb, lt-leb}
-use Rattle.arith.specs.Positions.{positionsBad}
-use Rattle.arith.proofs.positions.Distinct.{below}
+use Rattle.leaves.specs.Positions.{positionsBad}
+use Rattle.leaves.proofs.positions.Distinct.{below}
 use Rattle.builder.proofs.placement.key_bad.Statement.{statement}
 use Rattle.builder.proofs.placement.key_bad.Tie as tie
 

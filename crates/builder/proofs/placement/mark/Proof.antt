@@ -4,7 +4,7 @@ use Prim.Native.Nat.{_-_, _≤_}
 use native.Mathlib.Omega.{arith}
 use lib.ListN.{length}
 use borrow.Author.Needs.{needs}
-use Rattle.arith.specs.Positions.{among}
+use Rattle.leaves.specs.Positions.{among}
 use Rattle.builder.proofs.placement.Marks.{Marked, marked-none, marked-more}
 use Rattle.builder.proofs.placement.mark.Statement.{statement}
 use Rattle.builder.proofs.placement.mark.Tie as tie

@@ -9,8 +9,8 @@ use borrow.Author.Needs.{needs}
 use Rattle.laws.specs.Search.{some}
 use Rattle.laws.proofs.Lists.{room}
 use Rattle.laws.proofs.Search.{some-none, some-more, some-holds}
-use Rattle.arith.specs.Positions.{among}
-use Rattle.arith.proofs.positions.Distinct.{below}
+use Rattle.leaves.specs.Positions.{among}
+use Rattle.leaves.proofs.positions.Distinct.{below}
 use Rattle.builder.specs.Keys.{Keys, lentKeys}
 use Rattle.builder.specs.Placement.{keyBad, placementBad}
 use Rattle.builder.proofs.placement.Marks.{Seen, seen-none, seen-more, judged}

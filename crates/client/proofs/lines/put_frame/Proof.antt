@@ -8,7 +8,7 @@ use borrow.Author.Needs.{needs}
 use borrow.Rule.Slice.PartMut.{putMid}
 use Rattle.laws.specs.Lists.{join}
 use Rattle.laws.proofs.Filling.{Filled, filled-none, part-more, one-more}
-use Rattle.arith.specs.Bytes.{allBytes}
+use Rattle.plain.specs.Bytes.{allBytes}
 use Rattle.client.specs.Lines.{hex, frame, lineLength}
 use Rattle.client.proofs.lines.Hex.{digits, length-hex-words}
 use Rattle.client.proofs.lines.Frame.{frame-parts}

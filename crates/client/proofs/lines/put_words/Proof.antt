@@ -7,7 +7,7 @@ use borrow.Author.Needs.{needs}
 use Rattle.laws.specs.Lists.{join}
 use Rattle.laws.proofs.Lists.{room, row-lent, length-part}
 use Rattle.laws.proofs.Filling.{Filled, filled-none, filled-whole, row-more}
-use Rattle.arith.specs.Bytes.{wordBytes}
+use Rattle.plain.specs.Bytes.{wordBytes}
 use Rattle.client.specs.Lines.{hex}
 use Rattle.client.proofs.lines.Hex.{length-hex-word, length-hex-words, hex-words}
 use Rattle.client.proofs.lines.put_words.Statement.{statement}

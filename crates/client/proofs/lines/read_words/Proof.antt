@@ -7,7 +7,7 @@ use borrow.Author.Needs.{needs}
 use Rattle.laws.specs.Lists.{build}
 use Rattle.laws.proofs.Lists.{length-build}
 use Rattle.laws.proofs.Filling.{Filled, filled-none, filled-whole, word-more}
-use Rattle.arith.specs.Bytes.{wordAt}
+use Rattle.plain.specs.Bytes.{wordAt}
 use Rattle.client.specs.Lines.{bodyOf, lineColumns, lineWords}
 use Rattle.client.proofs.lines.read_words.Statement.{statement}
 use Rattle.client.proofs.lines.read_words.Tie as tie

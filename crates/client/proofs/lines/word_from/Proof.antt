@@ -7,7 +7,7 @@ use lib.ListN.{getD, drop}
 use lib.Seq.{getD-drop}
 use borrow.Author.Needs.{needs}
 use Rattle.laws.specs.Sums.{sum}
-use Rattle.arith.specs.Bytes.{wordAt}
+use Rattle.plain.specs.Bytes.{wordAt}
 use Rattle.client.specs.Lines.{unhex}
 use Rattle.client.proofs.lines.word_from.Statement.{statement}
 use Rattle.client.proofs.lines.word_from.Tie as tie

@@ -4,7 +4,7 @@ use mathlib.Core.Bool.{false}
 use borrow.Author.Needs.{needs}
 use borrow.Author.Tests.{eq-eqb, ne-eqb}
 use Rattle.laws.specs.Refusals.{outside}
-use Rattle.arith.specs.Positions.{positionsBad}
+use Rattle.leaves.specs.Positions.{positionsBad}
 use Rattle.client.specs.Table.{digestPending, full}
 use Rattle.client.proofs.open.Sizes.{none-free, some-free}
 use Rattle.client.proofs.open.place_refusal.Statement.{statement}

@@ -9,8 +9,8 @@ use borrow.Author.Needs.{needs}
 use Rattle.laws.specs.Lists.{splice, laid}
 use Rattle.laws.proofs.Lists.{length-build}
 use Rattle.laws.proofs.Refusals.{kept}
-use Rattle.arith.specs.Matrix.{times}
-use Rattle.arith.specs.Positions.{positionsBad}
+use Rattle.plain.specs.Matrix.{times}
+use Rattle.leaves.specs.Positions.{positionsBad}
 use Rattle.arith.specs.Sampler.{given}
 use Rattle.client.specs.Table.{slotOf}
 use Rattle.client.specs.Open.{Asked, asked, unread, bothRead, secretOf, errorOf, noisy, noisyOf, wraps, marked, early, openingNumber}

@@ -7,7 +7,7 @@ use lib.ListN.{length, replicate}
 use borrow.Author.Needs.{needs}
 use Rattle.laws.specs.Lists.{splice, laid}
 use Rattle.laws.proofs.Lists.{length-build}
-use Rattle.arith.specs.Matrix.{times}
+use Rattle.plain.specs.Matrix.{times}
 use Rattle.client.specs.Table.{taken}
 use Rattle.client.specs.Open.{marked}
 use Rattle.client.proofs.open.store.Statement.{statement}

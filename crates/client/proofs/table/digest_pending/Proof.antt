@@ -8,7 +8,8 @@ use borrow.Author.Needs.{needs}
 use borrow.Author.Tests.{eq-eqb, ne-eqb, not-true, not-false}
 use Rattle.laws.specs.Search.{some}
 use Rattle.laws.proofs.Search.{some-none, some-more, some-holds}
-use Rattle.client.specs.Table.{numberAt, digestAt, differs, digestPending}
+use Rattle.leaves.specs.Digests.{differs}
+use Rattle.client.specs.Table.{numberAt, digestAt, digestPending}
 use Rattle.client.proofs.table.Tests.{holding}
 use Rattle.client.proofs.table.digest_pending.Statement.{statement}
 use Rattle.client.proofs.table.digest_pending.Tie as tie

@@ -9,7 +9,8 @@ use borrow.Author.Needs.{needs}
 use borrow.Author.Tests.{eq-eqb, ne-eqb}
 use Rattle.laws.specs.Search.{some}
 use Rattle.laws.proofs.Search.{some-none, some-more, some-holds}
-use Rattle.client.specs.Table.{numberAt, digestAt, differs}
+use Rattle.leaves.specs.Digests.{differs}
+use Rattle.client.specs.Table.{numberAt, digestAt}
 use Rattle.client.proofs.table.Tests.{unclean}
 use Rattle.client.proofs.table.free_unclean.Statement.{statement}
 use Rattle.client.proofs.table.free_unclean.Tie as tie

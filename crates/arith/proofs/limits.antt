@@ -1,2 +1,0 @@
--- Laws of the limits.
-pub mod Shapes

@@ -1,4 +1,0 @@
--- Laws of the plain product and the transpose.
-pub mod Cells
-pub mod Associates
-pub mod Answers

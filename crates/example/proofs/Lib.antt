@@ -1,0 +1,2 @@
+-- The run is as told, and the demand speaks of it.
+pub mod Example

@@ -1,0 +1,2 @@
+-- A store with one key, and seven events.
+pub mod Example

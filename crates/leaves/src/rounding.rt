@@ -1,0 +1,33 @@
+// Document 01, "Reply": the indicator Δ = 2^(32-b), and a word rounded to the nearest multiple of it, the lower one on a tie.
+use super::limits;
+ghost use mathlib.Core.Path.{_≡_};
+ghost use Rattle.leaves.specs.Rounding.{indicatorOf, rounded};
+
+// Δ = 2^(32-b). No u32 is that for b 0 or above 32: 0 then.
+pub fn calculate_query_indicator(b: u32) -> u32
+    ensures { λ r. ⌜ r ≡ indicatorOf b ⌝ }
+{
+    if limits::out_of(1, 32, b as usize) {
+        return 0;
+    }
+    1 << (32 - b)
+}
+
+// The quotient by Δ, one more exactly when the remainder exceeds Δ/2, modulo 2^b. Where b is 0 there is one residue alone;
+// from 32 on Δ is 1, and a word is its own multiple.
+pub fn rounded(b: u32, u: u32) -> u32
+    ensures { λ r. ⌜ r ≡ rounded b u ⌝ }
+{
+    if b == 0 {
+        return 0;
+    }
+    if 32 <= b {
+        return u;
+    }
+    let delta = calculate_query_indicator(b);
+    let quotient = u / delta;
+    if delta / 2 < u % delta {
+        return (quotient + 1) % (1 << b);
+    }
+    quotient % (1 << b)
+}

@@ -1,0 +1,2 @@
+-- The worked numbers are as stated.
+pub mod Worked

@@ -1,0 +1,2 @@
+-- Document 01, "Numbers to hold against it".
+pub mod Worked
