@@ -4,7 +4,7 @@ use super::packing::Packed;
 use leaves::limits;
 use leaves::words;
 ghost use mathlib.Core.Path.{_≡_};
-ghost use Prim.Native.Nat.{_*_, _%_, _^_, _≤_};
+ghost use Prim.Native.Nat.{_*_, _≤_};
 ghost use lib.ListN.{length};
 ghost use Rattle.laws.specs.Lists.{laid};
 ghost use Rattle.arith.specs.Packing.{wordsOf, Slotted, packedNumber};

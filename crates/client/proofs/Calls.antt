@@ -1,11 +1,10 @@
 -- What each call does to a table and its slab, whatever it answers: a table that is well formed stays so, which tickets are
 -- pending, that next rises by one at an open that succeeds and never else, and that the other slots keep all they have.
 use mathlib.Core.Path.{_≡_, refl, sym, _∙_}
-use mathlib.Core.Bool.{Bool, true, false, true≢false, not, cond, _&&_, _||_, or-false, and-true}
+use mathlib.Core.Bool.{Bool, true, false, not, cond, _&&_, _||_, or-false, and-true}
 use mathlib.Core.List.{List, [], _∷_, _++_}
 use Prim.Native.Nat.{ℕ, zero, suc, _+_, _*_, _<_}
 use native.Mathlib.Nat.{add-zero, one-mul}
-use native.Mathlib.Decide.{decLt}
 use native.Mathlib.Omega.{arith}
 use lib.ListN.{length, replicate, length-replicate}
 use lib.Dec.{eqb}
@@ -27,7 +26,7 @@ use Rattle.client.proofs.table.Slots.{Kept, slot-free, slot-pending, ta
 use Rattle.client.proofs.table.Formed.{taken-formed, closed-formed}
 use Rattle.client.proofs.table.Pending.{fresh-pending, taken-pending, closed-pending}
 use Rattle.client.proofs.open.Sizes.{shaped}
-use Rattle.client.proofs.reply.Answers.{early, early-open, waiting, lent}
+use Rattle.client.proofs.reply.Answers.{none-early, waiting, lent}
 use Rattle.client.proofs.discard.Answers.{accepted}
 
 -- What holds of both cases of a test holds of the one that it picks. An answer's number is such a test.
@@ -176,14 +175,7 @@ module _ (a : Received) (size : Sized (a .table)) where
   -- where it closes the ticket, that was pending and the slab is whole
   was-pending : closing (replyNumber a) ≡ true
       → (pending (a .table) (a .ticket) ≡ true) × (length (a .slab) ≡ 64 * a .table .columns)
-  was-pending e =
-      elim (decLt 0 (first (early a))) [
-        | yes h ↦ absurd (true≢false (sym e ∙ early-open a h))
-        | no g ↦ passed (omega arith)
-      ]
-    where
-      passed : first (early a) ≡ 0 → (pending (a .table) (a .ticket) ≡ true) × (length (a .slab) ≡ 64 * a .table .columns)
-      passed n = (waiting a n, lent a n .0)
+  was-pending e = let n = none-early a e in (waiting a n, lent a n .0)
 
   pub reply-sized : Sized (replyOf a .table)
   reply-sized = shut-sized (a .table) (a .slab) (a .ticket) size (closing (replyNumber a)) was-pending

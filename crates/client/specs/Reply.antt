@@ -76,6 +76,10 @@ replyNumber a =
     ∷ rowTests (a .table) (slotFor a) (rowFor a)
     )
 
+-- the value's length that a reply answers; 0 on a refusal
+abbrev pub replyLength : Received → ℕ
+replyLength a = after (replyNumber a) (valueLength (a .table .b) (a .table .columns) (rowFor a)) 0
+
 -- the ticket is closed: by success, 13 and 14
 abbrev pub closing : ℕ → Bool
 closing number = eqb number 0 || eqb number 13 || eqb number 14
@@ -114,7 +118,7 @@ replySaid r =
 abbrev pub replyOf : Received → ReplySaid
 replyOf a = record {
   number = replyNumber a;
-  length = after (replyNumber a) (valueLength (a .table .b) (a .table .columns) (rowFor a)) 0;
+  length = replyLength a;
   table = cond (closing (replyNumber a)) (closed (a .table) (slotFor a)) (a .table);
 }
 

@@ -15,8 +15,8 @@ ghost use Rattle.laws.specs.Refusals.{_⇒_, first, after};
 ghost use Rattle.laws.specs.Lists.{row, laid};
 ghost use Rattle.arith.specs.Codec.{columnsBad, valueRoom, valueLength, valueOf, decodedNumber};
 ghost use Rattle.client.specs.Table.{malformed, pending};
-ghost use Rattle.client.specs.Reply.{received, lentBad, lessWord, recovered, rowNumber, replyingNumber, replyingLength};
-ghost use Rattle.client.specs.Reply.{replySaid, replyOf, replySlab, replyValue};
+ghost use Rattle.client.specs.Reply.{received, lentBad, lessWord, recovered, rowNumber, replyNumber, closing, replyingNumber, replyingLength};
+ghost use Rattle.client.specs.Reply.{replyLength, replySaid, replyOf, replySlab, replyValue};
 
 // What a reply answers.
 pub enum Reply {
@@ -183,6 +183,50 @@ fn answer_for(
     read_row(table, slot, &row[start..columns], value)
 }
 
+// 01's refusals in their order, else the value at the start of `value`. No ticket is closed here.
+fn read_response(
+    table: Table,
+    slab: &[u32],
+    ticket: u32,
+    response: &[u32],
+    masks: &[u32],
+    value: &mut [u8],
+) -> Reply
+    ensures { λ r. ⌜ replyingNumber r ≡ replyNumber (received table (now (slab .entry)) ticket (now (response .entry)) (now (masks .entry)) (now (value .entry))) ⌝ }
+    ensures { λ r. ⌜ replyingLength r ≡ replyLength (received table (now (slab .entry)) ticket (now (response .entry)) (now (masks .entry)) (now (value .entry))) ⌝ }
+    ensures { λ _. ⌜ now (value .exit) ≡ replyValue (received table (now (slab .entry)) ticket (now (response .entry)) (now (masks .entry)) (now (value .entry))) ⌝ }
+{
+    let early = refusal(
+        table,
+        slab.len(),
+        ticket,
+        response.len(),
+        masks.len(),
+        value.len(),
+    );
+    let Reply::Value(_) = early else {
+        return early;
+    };
+    let slot = table::slot_of(table, ticket);
+    answer_for(table, slot, slab, response, masks, value)
+}
+
+// Does this answer close the ticket? Success, 13 and 14 do.
+fn closes(answer: Reply) -> bool
+    ensures { λ r. ⌜ r ≡ closing (replyingNumber answer) ⌝ }
+{
+    match answer {
+        Reply::Value(_) => true,
+        Reply::Malformed => false,
+        Reply::Shape => false,
+        Reply::NotPending => false,
+        Reply::Length => false,
+        Reply::Element => false,
+        Reply::Marker => true,
+        Reply::Digest => true,
+    }
+}
+
 // The value for a response, written at the start of `value`. Success, 13 and 14 close the ticket.
 pub fn process_response(
     table: Table,
@@ -196,30 +240,16 @@ pub fn process_response(
     ensures { λ _. ⌜ now (slab .exit) ≡ replySlab (received table (now (slab .entry)) ticket (now (response .entry)) (now (masks .entry)) (now (value .entry))) ⌝ }
     ensures { λ _. ⌜ now (value .exit) ≡ replyValue (received table (now (slab .entry)) ticket (now (response .entry)) (now (masks .entry)) (now (value .entry))) ⌝ }
 {
-    let early = refusal(
-        table,
-        slab.len(),
-        ticket,
-        response.len(),
-        masks.len(),
-        value.len(),
-    );
-    let Reply::Value(_) = early else {
-        return Replied {
-            answer: early,
-            table: table,
-        };
-    };
-    let slot = table::slot_of(table, ticket);
-    let answer = answer_for(table, slot, slab, response, masks, value);
-    let Reply::Element = answer else {
+    let answer = read_response(table, slab, ticket, response, masks, value);
+    if !closes(answer) {
         return Replied {
             answer: answer,
-            table: table::close(table, slab, slot),
+            table: table,
         };
-    };
+    }
+    let slot = table::slot_of(table, ticket);
     Replied {
         answer: answer,
-        table: table,
+        table: table::close(table, slab, slot),
     }
 }

@@ -1,4 +1,4 @@
-// The run of recovery's specs/Example.antt on the proved library, and what each event is answered. Buffers hold sevens.
+// The run of example's specs/Example.antt on the proved library, and what each event is answered. Buffers hold sevens.
 mod calls;
 mod print;
 mod store;

@@ -1,14 +1,14 @@
 -- Two results that a contract allows for one input coincide. A leaf answers the definition's value itself, and `zero` writes it.
 use mathlib.Core.List.{List}
 use mathlib.Core.Bool.{Bool}
-use Prim.Native.Nat.{ℕ, _*_, _%_, _^_}
-use lib.ListN.{length, replicate}
+use Prim.Native.Nat.{ℕ}
 use Rattle.laws.specs.Refusals.{OneOutcome, outside, widthBad}
 use Rattle.laws.proofs.Refusals.{one-answer}
 use Rattle.leaves.specs.Limits.{anyAbove}
 use Rattle.leaves.specs.Positions.{positionsBad}
 use Rattle.leaves.specs.Digests.{differs}
 use Rattle.leaves.specs.Rounding.{indicatorOf, rounded}
+use Rattle.leaves.specs.Words.{zeroed, timesWord}
 
 pub out-of-settled : (lo hi x : ℕ) → OneOutcome (λ (r : Bool). r) (outside lo hi x)
 out-of-settled lo hi x = one-answer _
@@ -31,9 +31,9 @@ calculate-query-indicator-settled b = one-answer _
 pub rounded-settled : (b u : ℕ) → OneOutcome (λ (r : ℕ). r) (rounded b u)
 rounded-settled b u = one-answer _
 
-pub wrapping-mul-settled : (x y : ℕ) → OneOutcome (λ (r : ℕ). r) ((x * y) % 2 ^ 32)
+pub wrapping-mul-settled : (x y : ℕ) → OneOutcome (λ (r : ℕ). r) (timesWord x y)
 wrapping-mul-settled x y = one-answer _
 
 -- what the words hold at exit
-pub zero-settled : (words : List ℕ) → OneOutcome (λ (xs : List ℕ). xs) (replicate (length words) 0)
+pub zero-settled : (words : List ℕ) → OneOutcome (λ (xs : List ℕ). xs) (zeroed words)
 zero-settled words = one-answer _

@@ -3,3 +3,4 @@ pub mod Limits
 pub mod Positions
 pub mod Digests
 pub mod Rounding
+pub mod Words

@@ -2,10 +2,9 @@
 use mathlib.Core.Path.{_≡_, refl}
 use mathlib.Core.List.{List, [], _∷_}
 use mathlib.Core.Bool.{cond}
-use Prim.Native.Nat.{ℕ, _/_, _%_, _^_}
+use Prim.Native.Nat.{ℕ}
 use lib.Dec.{eqb}
 use lib.ListN.{length}
-use Rattle.laws.specs.Lists.{build}
 use Rattle.laws.specs.Refusals.{OneResult, OneOutcome}
 use Rattle.laws.proofs.Refusals.{one-result, one-answer}
 use Rattle.plain.specs.declared.matrix.Plain.{Plain}
@@ -13,7 +12,7 @@ use Rattle.plain.specs.declared.matrix.Plain.the-variants as plain
 use Rattle.plain.specs.declared.bytes.Parsed.{Parsed}
 use Rattle.plain.specs.declared.bytes.Parsed.the-variants as parsed
 use Rattle.plain.specs.Matrix.{plainNumber, timesNumber, timesAfter, transposeNumber, transposeAfter}
-use Rattle.plain.specs.Bytes.{wordAt, writeNumber, writeAfter}
+use Rattle.plain.specs.Bytes.{lowBytes, wordAt, writeNumber, writeAfter}
 use Rattle.plain.specs.Bytes.{parsedNumber, parsedRows, parsedColumns, readNumber, readRows, readColumns, readAfter}
 
 abbrev plainOf : ℕ → Plain
@@ -53,7 +52,7 @@ from-bytes-settled bytes out = one-result parsedSaid parsedOf parsed-back _ _
 
 -- the bytes of one word, as many as there is room for
 pub put-word-settled : (x : ℕ) (part : List ℕ)
-    → OneOutcome (λ (xs : List ℕ). xs) (build (length part) (λ i. x / 256 ^ i % 256))
+    → OneOutcome (λ (xs : List ℕ). xs) (lowBytes (length part) x)
 put-word-settled x part = one-answer _
 
 pub word-of-settled : (x0 x1 x2 x3 : ℕ) → OneOutcome (λ (r : ℕ). r) (wordAt (x0 ∷ x1 ∷ x2 ∷ x3 ∷ []) 0)

@@ -11,9 +11,12 @@ use Rattle.plain.specs.Matrix.{matrixBad}
 use Rattle.plain.specs.declared.bytes.Parsed.{Parsed}
 use Rattle.plain.specs.declared.bytes.Parsed.the-variants.{Matrix, Malformed, Shape}
 
--- the four bytes of a word, lowest first
+-- the first n bytes of a number, lowest first, and the four of a word
+abbrev pub lowBytes : ℕ → ℕ → List ℕ
+lowBytes n x = build n (λ i. x / 256 ^ i % 256)
+
 abbrev pub wordBytes : ℕ → List ℕ
-wordBytes x = build 4 (λ i. x / 256 ^ i % 256)
+wordBytes x = lowBytes 4 x
 
 -- numbers, each as its four bytes
 unfoldable pub allBytes : List ℕ → List ℕ

@@ -2,14 +2,14 @@
 use super::matrix;
 use super::matrix::Plain;
 ghost use mathlib.Core.Path.{_≡_};
-ghost use Prim.Native.Nat.{_+_, _*_, _/_, _%_, _^_, _≤_};
+ghost use Prim.Native.Nat.{_+_, _*_, _≤_};
 ghost use mathlib.Core.Bool.{not, _||_};
 ghost use mathlib.Core.List.{[], _∷_};
 ghost use lib.ListN.{length};
 ghost use lib.Dec.{ltb, eqb};
 ghost use Rattle.laws.specs.Lists.{build, laid};
 ghost use Rattle.plain.specs.Matrix.{matrixBad, plainNumber};
-ghost use Rattle.plain.specs.Bytes.{wordAt, allBytes, matrixBytes, writeNumber, writeAfter};
+ghost use Rattle.plain.specs.Bytes.{lowBytes, wordAt, allBytes, matrixBytes, writeNumber, writeAfter};
 ghost use Rattle.plain.specs.Bytes.{parsedNumber, parsedRows, parsedColumns, readNumber, readRows, readColumns, readAfter};
 
 // What the matrix-bytes reader answers.
@@ -24,7 +24,7 @@ pub enum Parsed {
 
 // The bytes of a word, lowest first, as many as `part` has room for.
 pub fn put_word(x: u32, part: &mut [u8])
-    ensures { λ _. ⌜ now (part .exit) ≡ build (length (now (part .entry))) (λ i. x / 256 ^ i % 256) ⌝ }
+    ensures { λ _. ⌜ now (part .exit) ≡ lowBytes (length (now (part .entry))) x ⌝ }
 {
     let mut rest = x;
     let mut i: usize = 0;

@@ -10,10 +10,10 @@ use Rattle.laws.specs.Lists.{build}
 use Rattle.laws.specs.Sums.{sum, Cong}
 use Rattle.laws.proofs.Lists.{length-build, getD-build, build-ext}
 use Rattle.laws.proofs.Refusals.{inside}
-use Rattle.laws.proofs.Sums.{sum-ext, sum-plus, sum-mul, cong-eq, cong-sym, cong-trans, cong-wrap, cong-add, cong-mul-right, cong-sum, mod-in}
+use Rattle.laws.proofs.Sums.{sum-plus, sum-mul, cong-eq, cong-sym, cong-trans, cong-wrap, cong-add, cong-mul-right, cong-sum, mod-in}
 use Rattle.plain.specs.Matrix.{cell, times}
 use Rattle.leaves.specs.Positions.{among, positionsBad}
-use Rattle.plain.proofs.matrix.Cells.{length-grid, cell-times}
+use Rattle.plain.proofs.matrix.Cells.{length-grid, product-word}
 use Rattle.plain.proofs.matrix.Associates.{times-associates}
 use Rattle.builder.specs.Database.{rowsSum}
 use Rattle.leaves.specs.Rounding.{delta, rounded}
@@ -30,18 +30,8 @@ module _ (m c : ℕ) (v y : List ℕ) where
   unfolding times
   length-product = length-grid 1 c _ ∙ one-mul c
 
-  product-word : (j : ℕ) → j < c → getD (times 1 m c v y) j 0 ≡ sum m (λ t. getD v t 0 * cell c y t j) % 2 ^ 32
-  product-word j h =
-      let first : 0 * c + j ≡ j = omega arith in
-      ap (λ (k : ℕ). getD (times 1 m c v y) k 0) (sym first)
-      ∙ cell-times 1 m c v y 0 j (omega arith) h
-      ∙ ap (λ (x : ℕ). x % 2 ^ 32)
-      (sum-ext m _ _ (λ t _.
-      let at : 0 * m + t ≡ t = omega arith in
-      ap (λ (k : ℕ). getD v k 0 * cell c y t j) at))
-
   pub product-small : (j : ℕ) → j < c → getD (times 1 m c v y) j 0 < 2 ^ 32
-  product-small j h = rw (product-word j h) (mod-lt (sum m (λ t. getD v t 0 * cell c y t j)) {m = 2 ^ 32} (omega arith))
+  product-small j h = rw (product-word m c v y j h) (mod-lt (sum m (λ t. getD v t 0 * cell c y t j)) {m = 2 ^ 32} (omega arith))
 
 -- a marked entry of the query, times an entry of the database
 spread : (t : Bool) (x y k d : ℕ) → (x + y + cond t k 0) * d ≡ x * d + y * d + cond t (k * d) 0

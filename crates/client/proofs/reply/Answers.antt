@@ -1,8 +1,9 @@
 -- The answers of a reply: refused before a row is recovered, or by what the row says.
-use mathlib.Core.Path.{_≡_, refl, sym, ap, subst, _∙_}
-use mathlib.Core.Bool.{Bool, true, false, not, cond}
+use mathlib.Core.Path.{_≡_, refl, sym, subst, _∙_}
+use mathlib.Core.Bool.{true, false, true≢false, not, cond}
 use mathlib.Core.List.{List, [], _∷_}
 use Prim.Native.Nat.{ℕ, _*_, _<_, _≤_}
+use native.Mathlib.Decide.{decLt}
 use native.Mathlib.Omega.{arith}
 use lib.Dec.{ltb, eqb}
 use lib.ListN.{length}
@@ -12,19 +13,18 @@ use denote.Enum.Declared.{tagOf}
 use Rattle.laws.specs.Refusals.{Test, _⇒_, first, after}
 use Rattle.laws.specs.Lists.{row, laid}
 use Rattle.laws.proofs.Refusals.{neither, refused-before, Clear, all-clear, clear-before, not-answered, kept}
-use Rattle.leaves.specs.Limits.{elementsBad}
-use Rattle.arith.specs.Codec.{valueRoom, markerBad, valueLength, valueOf}
+use Rattle.arith.specs.Codec.{valueRoom, valueLength, valueOf}
 use Rattle.client.specs.declared.table.Table.{Table}
 use Rattle.client.specs.declared.reply.Reply.{Reply}
 use Rattle.client.specs.declared.reply.Reply.the-variants as reply
 use Rattle.client.specs.Table.{malformed, pending, closed, wiped}
-use Rattle.client.specs.Reply.{Received, lentBad, recovered, slotFor, rowFor, digestBad, rowTests, rowNumber, replyNumber, closing}
-use Rattle.client.specs.Reply.{replyingNumber, replyingLength, replySaid, replyOf, replySlab, replyValue}
+use Rattle.client.specs.Reply.{Received, lentBad, recovered, slotFor, rowFor, rowTests, rowNumber, replyNumber, closing}
+use Rattle.client.specs.Reply.{replyingNumber, replyingLength, replyLength, replySaid, replyOf, replySlab, replyValue}
 use Rattle.client.proofs.table.Slots.{slot-pending}
 use Rattle.client.proofs.table.Formed.{Formed, formed}
 use Rattle.client.proofs.reply.Reply.{the-type}
 
--- an answer other than a value, and one other than `Element`, as a `let .. else` tells it
+-- an answer other than a value, as a `let .. else` tells it
 pub refusing : (r : Reply) → OneOf (1 ∷ 2 ∷ 3 ∷ 4 ∷ 5 ∷ 6 ∷ 7 ∷ []) (tagOf the-type r) → 0 < replyingNumber r
 refusing (reply.Value n) h = absurd (miss (1 ∷ 2 ∷ 3 ∷ 4 ∷ 5 ∷ 6 ∷ 7 ∷ []) 0 tt h)
 refusing reply.Malformed h = omega arith
@@ -35,31 +35,10 @@ refusing reply.Element h = omega arith
 refusing reply.Marker h = omega arith
 refusing reply.Digest h = omega arith
 
-pub not-element : (r : Reply) → OneOf (0 ∷ 1 ∷ 2 ∷ 3 ∷ 4 ∷ 6 ∷ 7 ∷ []) (tagOf the-type r) → ¬ (replyingNumber r ≡ 17)
-not-element (reply.Value n) h p = omega arith
-not-element reply.Malformed h p = omega arith
-not-element reply.Shape h p = omega arith
-not-element reply.NotPending h p = omega arith
-not-element reply.Length h p = omega arith
-not-element reply.Element h p = absurd (miss (0 ∷ 1 ∷ 2 ∷ 3 ∷ 4 ∷ 6 ∷ 7 ∷ []) 5 tt h)
-not-element reply.Marker h p = omega arith
-not-element reply.Digest h p = omega arith
-
--- of the numbers that a row is answered by, 17 alone leaves the ticket open
-row-closes : (t : Table) (s : ℕ) (found : List ℕ) → ¬ (rowNumber t s found ≡ 17) → closing (rowNumber t s found) ≡ true
-unfolding rowNumber
-row-closes t s found = by (elementsBad (t .b) found) (markerBad (t .b) (t .columns) found) (digestBad t s found)
-  where
-    by : (x y z : Bool) → let n = first (x ⇒ 17 ∷ y ⇒ 13 ∷ z ⇒ 14 ∷ []) in ¬ (n ≡ 17) → closing n ≡ true
-    by true y z h = absurd (h refl)
-    by false true z h = refl
-    by false false true h = refl
-    by false false false h = refl
-
 -- what an answer says, and what the value buffer holds
 pub record Told (a : Received) (r : Reply) (value : List ℕ) : Type 0 where
   pub number-is : replyingNumber r ≡ replyNumber a
-  pub length-is : replyingLength r ≡ after (replyNumber a) (valueLength (a .table .b) (a .table .columns) (rowFor a)) 0
+  pub length-is : replyingLength r ≡ replyLength a
   pub value-is : value ≡ replyValue a
 
 -- all that a reply promises
@@ -116,6 +95,14 @@ module _ (a : Received) where
         let pos : 0 < replyNumber a = rw early-number refused in
         record { number-is = e ∙ sym early-number; length-is = l ∙ kept _ _ _ pos; value-is = kept _ _ _ pos }
 
+  -- an answer that closes the ticket is none of theirs
+  pub none-early : closing (replyNumber a) ≡ true → first early ≡ 0
+  none-early e =
+      elim (decLt 0 (first early)) [
+        | yes h ↦ absurd (true≢false (sym e ∙ early-open h))
+        | no g ↦ omega arith
+      ]
+
   -- no early one holds
   module _ (none : first early ≡ 0) where
     clear : Clear early
@@ -145,10 +132,6 @@ module _ (a : Received) where
     row-number : replyNumber a ≡ rowNumber (a .table) (slotFor a) (rowFor a)
     unfolding replyNumber rowNumber
     row-number = clear-before early late clear
-
-    pub late-closes : ¬ (replyNumber a ≡ 17) → closing (replyNumber a) ≡ true
-    late-closes h =
-        ap closing row-number ∙ row-closes (a .table) (slotFor a) (rowFor a) (λ e. h (row-number ∙ e))
 
     -- the row that slot s gives, and what is answered for it
     abbrev rowAt : ℕ → List ℕ

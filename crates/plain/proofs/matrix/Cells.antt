@@ -1,7 +1,8 @@
 -- The cells of a matrix that was made cell by cell.
 use mathlib.Core.Path.{_≡_, sym, ap, _∙_}
 use mathlib.Core.List.{List}
-use Prim.Native.Nat.{ℕ, _*_, _%_, _^_, _<_}
+use Prim.Native.Nat.{ℕ, _+_, _*_, _%_, _^_, _<_}
+use native.Mathlib.Omega.{arith}
 use lib.ListN.{length, getD}
 use Rattle.laws.specs.Lists.{build, row}
 use Rattle.laws.specs.Sums.{sum}
@@ -29,6 +30,18 @@ pub cell-times : (r m c : ℕ) (x y : List ℕ) (i j : ℕ) → i < r → j < c
     → cell c (times r m c x y) i j ≡ sum m (λ t. cell m x i t * cell c y t j) % 2 ^ 32
 unfolding times
 cell-times r m c x y i j hi hj = cell-grid r c (λ i j. sum m (λ t. cell m x i t * cell c y t j) % 2 ^ 32) i j hi hj
+
+-- words times a matrix: the words are a matrix of one row
+pub product-word : (m c : ℕ) (v y : List ℕ) (j : ℕ) → j < c
+    → getD (times 1 m c v y) j 0 ≡ sum m (λ t. getD v t 0 * cell c y t j) % 2 ^ 32
+product-word m c v y j h =
+    let first : 0 * c + j ≡ j = omega arith in
+    ap (λ (k : ℕ). getD (times 1 m c v y) k 0) (sym first)
+    ∙ cell-times 1 m c v y 0 j (omega arith) h
+    ∙ ap (λ (x : ℕ). x % 2 ^ 32)
+    (sum-ext m _ _ (λ t _.
+    let at : 0 * m + t ≡ t = omega arith in
+    ap (λ (k : ℕ). getD v k 0 * cell c y t j) at))
 
 pub cell-transposed : (r c : ℕ) (x : List ℕ) (i j : ℕ) → i < r → j < c → cell r (transposed r c x) j i ≡ cell c x i j
 unfolding transposed
