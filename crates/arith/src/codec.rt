@@ -64,7 +64,7 @@ fn bytes_in(b: u32, columns: usize) -> usize
 }
 
 // Byte m of the record: the digest, the value, the marker, and zeros without end, so that all further bits are written
-// zero, in the last whole byte and past it.
+// zero, up to the last whole byte and past it.
 fn record_byte(digest: [u8; 32], value: &[u8], m: usize) -> u32
     ensures { λ r. ⌜ r ≡ getD (digest ++ (now (value .entry) ++ (129 ∷ []))) m 0 ⌝ }
 {

@@ -1,10 +1,10 @@
 -- What each call does to a table and its slab, whatever it answers: a table that is well formed stays so, which tickets are
 -- pending, that next rises by one at an open that succeeds and never else, and that the other slots keep all they have.
-use mathlib.Core.Path.{_≡_, refl, sym, _∙_}
+use mathlib.Core.Path.{_≡_, refl, sym}
 use mathlib.Core.Bool.{Bool, true, false, not, cond, _&&_, _||_, or-false, and-true}
 use mathlib.Core.List.{List, [], _∷_, _++_}
 use Prim.Native.Nat.{ℕ, zero, suc, _+_, _*_, _<_}
-use native.Mathlib.Nat.{add-zero, one-mul}
+use native.Mathlib.Nat.{add-zero}
 use native.Mathlib.Omega.{arith}
 use lib.ListN.{length, replicate, length-replicate}
 use lib.Dec.{eqb}
@@ -14,11 +14,10 @@ use Rattle.laws.specs.Lists.{row, splice}
 use Rattle.laws.proofs.Refusals.{Clear, all-clear, clear-front}
 use Rattle.laws.proofs.Lists.{room}
 use Rattle.laws.proofs.Splice.{row-kept}
-use Rattle.plain.specs.Matrix.{times}
-use Rattle.plain.proofs.matrix.Cells.{length-grid}
+use Rattle.plain.proofs.matrix.Cells.{length-product}
 use Rattle.client.specs.declared.table.Table.{Table}
 use Rattle.client.specs.Table.{Sized, malformed, digestPending, full, pending, slotOf, closed, wiped, freshNumber, freshAfter}
-use Rattle.client.specs.Open.{Asked, openTests, wraps, noisyOf, keyOf, openNumber, openOf, openLeft}
+use Rattle.client.specs.Open.{Asked, openTests, wraps, noisyOf, secretOf, storedSecret, openNumber, openOf, openLeft}
 use Rattle.client.specs.Reply.{Received, slotFor, replyNumber, closing, replyOf, replySlab}
 use Rattle.client.specs.Discard.{discardNumber, discardTable, discardSlab}
 use Rattle.client.proofs.table.Lengths.{fresh-sized, taken-sized, closed-sized}
@@ -71,9 +70,8 @@ module _ (a : Asked) (size : Sized (a .table)) (whole : length (a .digest) ≡ 3
   slab-whole : eqb (openNumber a) 0 ≡ true → length (a .slab) ≡ 64 * a .table .columns
   slab-whole e = shaped _ _ _ _ _ _ _ _ _ (clear e .1 .0) .slab-whole
 
-  key-long : length (keyOf a) ≡ a .table .columns
-  unfolding times
-  key-long = length-grid 1 (a .table .columns) _ ∙ one-mul (a .table .columns)
+  stored-long : length (storedSecret a) ≡ a .table .columns
+  stored-long = length-product (a .n) (a .table .columns) (secretOf a) (a .hint)
 
   slot-in : eqb (openNumber a) 0 ≡ true → slotOf (a .table) 0 < 64
   slot-in e = slot-free (a .table) (unfilled e) .0
@@ -124,11 +122,11 @@ module _ (a : Asked) (size : Sized (a .table)) (whole : length (a .digest) ≡ 3
   )
     where
       key-kept : eqb (openNumber a) 0 ≡ true
-          → row (a .table .columns) (splice (slotOf (a .table) 0 * a .table .columns) (keyOf a) (a .slab)) q
+          → row (a .table .columns) (splice (slotOf (a .table) 0 * a .table .columns) (storedSecret a) (a .slab)) q
           ≡ row (a .table .columns) (a .slab) q
       key-kept e =
-          row-kept (a .table .columns) (slotOf (a .table) 0) (keyOf a) (a .slab)
-          (omega (arith, room (slotOf (a .table) 0) 64 (a .table .columns) (slot-in e), slab-whole e)) key-long q ne
+          row-kept (a .table .columns) (slotOf (a .table) 0) (storedSecret a) (a .slab)
+          (omega (arith, room (slotOf (a .table) 0) 64 (a .table .columns) (slot-in e), slab-whole e)) stored-long q ne
 
 -- A slot is closed where a test holds: what a reply and a discard have in common.
 module _ (t : Table) (slab : List ℕ) (ticket : ℕ) (size : Sized t) (b : Bool)

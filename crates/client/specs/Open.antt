@@ -2,12 +2,13 @@
 use Prim.Native.Nat.{ℕ, _+_, _*_, _%_, _^_}
 use mathlib.Core.Bool.{Bool, not, cond, _||_}
 use mathlib.Core.List.{List, [], _∷_, _++_}
-use lib.ListN.{length, getD, take, drop, replicate}
+use lib.ListN.{length, getD, take, drop}
 use lib.Dec.{ltb, leb, eqb}
 use Rattle.laws.specs.Refusals.{Test, _⇒_, first, after, outside}
 use Rattle.laws.specs.Lists.{build, splice, laid}
 use Rattle.laws.specs.Search.{some}
 use Rattle.plain.specs.Matrix.{times}
+use Rattle.leaves.specs.Words.{zeroed}
 use Rattle.leaves.specs.Positions.{among, positionsBad}
 use Rattle.arith.specs.Sampler.{given, shortest, tooFew}
 use Rattle.client.specs.Table.{malformed, digestPending, full, slotOf, taken}
@@ -100,8 +101,8 @@ unfoldable pub marked : ℕ → List ℕ → List ℕ → List ℕ
 marked b ps q = build (length q) (λ j. getD q j 0 + cond (among ps j) (delta b) 0)
 
 -- s times hint, C words
-abbrev pub keyOf : Asked → List ℕ
-keyOf a = times 1 (a .n) (a .table .columns) (secretOf a) (a .hint)
+abbrev pub storedSecret : Asked → List ℕ
+storedSecret a = times 1 (a .n) (a .table .columns) (secretOf a) (a .hint)
 
 -- what is tested before a word is drawn: 18, 2, 4, 5, 7, 8, 9, 3
 abbrev pub openTests : Asked → List Test
@@ -200,11 +201,11 @@ left slab secret error query = record { slab = slab; secret = secret; error = er
 
 -- a work buffer: zeros where words were read
 abbrev pub workAfter : ℕ → List ℕ → List ℕ
-workAfter number work = cond (spent number) (replicate (length work) 0) work
+workAfter number work = cond (spent number) (zeroed work) work
 
 abbrev pub openLeft : Asked → OpenLeft
 openLeft a =
-    left (after (openNumber a) (splice (slotOf (a .table) 0 * a .table .columns) (keyOf a) (a .slab)) (a .slab))
+    left (after (openNumber a) (splice (slotOf (a .table) 0 * a .table .columns) (storedSecret a) (a .slab)) (a .slab))
     (workAfter (openNumber a) (a .secret))
     (workAfter (openNumber a) (a .error))
     (after (openNumber a) (laid (marked (a .table .b) (a .positions) (noisyOf a)) (a .query)) (a .query))

@@ -12,12 +12,13 @@ ghost use mathlib.Core.Path.{_≡_};
 ghost use mathlib.Core.Bool.{false};
 ghost use mathlib.Core.List.{[], _∷_};
 ghost use Prim.Native.Nat.{_+_, _*_, _%_, _^_, _≤_, _<_};
-ghost use lib.ListN.{length, getD, take, replicate};
+ghost use lib.ListN.{length, getD, take};
 ghost use lib.Dec.{eqb};
 ghost use Rattle.laws.specs.Refusals.{_⇒_, first, after, outside};
 ghost use Rattle.laws.specs.Lists.{build, splice, laid};
 ghost use Rattle.plain.specs.Matrix.{times};
 ghost use Rattle.leaves.specs.Positions.{positionsBad};
+ghost use Rattle.leaves.specs.Words.{zeroed};
 ghost use Rattle.arith.specs.Sampler.{given, sampledNumber, sampledRead};
 ghost use Rattle.client.specs.Table.{digestPending, full, slotOf, taken};
 ghost use Rattle.client.specs.Open.{asked, shapeBad, unread, bothRead, eitherShort, noisy, wraps, marked, early};
@@ -265,7 +266,7 @@ fn copy(from: &[u32], out: &mut [u32])
     }
 }
 
-// s times hint into the words of slot s of the slab.
+// s times hint into the words of this slot of the slab.
 fn put_secret(columns: usize, slot: usize, secret: &[u32], hint: &[u32], slab: &mut [u32])
     requires { ⌜ (1 ≤ length (now secret)) × (length (now secret) ≤ 2048) × (1 ≤ columns) × (columns ≤ 512) × (slot < 64) ⌝ }
     requires { ⌜ (length (now hint) ≡ length (now secret) * columns) × (length (now slab) ≡ 64 * columns) ⌝ }
@@ -301,8 +302,8 @@ fn store(
     requires { ⌜ (positionsBad (length (now error)) positions ≡ false) × (wraps (table .b) positions (now error) ≡ false) ⌝ }
     ensures { λ t. ⌜ t ≡ taken table (slotOf table 0) digest ⌝ }
     ensures { λ _. ⌜ now (slab .exit) ≡ splice (slotOf table 0 * table .columns) (times 1 (length (now (secret .entry))) (table .columns) (now (secret .entry)) (now (hint .entry))) (now (slab .entry)) ⌝ }
-    ensures { λ _. ⌜ now (secret .exit) ≡ replicate (length (now (secret .entry))) 0 ⌝ }
-    ensures { λ _. ⌜ now (error .exit) ≡ replicate (length (now (error .entry))) 0 ⌝ }
+    ensures { λ _. ⌜ now (secret .exit) ≡ zeroed (now (secret .entry)) ⌝ }
+    ensures { λ _. ⌜ now (error .exit) ≡ zeroed (now (error .entry)) ⌝ }
     ensures { λ _. ⌜ now (query .exit) ≡ laid (marked (table .b) positions (now (error .entry))) (now (query .entry)) ⌝ }
 {
     let slot = table::slot_of(table, 0);

@@ -49,7 +49,7 @@ ask byte = record {
 abbrev pub before : State
 before = start store (replicate 1280 7)
 
--- ticket 1 is opened and discarded, and then ticket 2
+-- ticket 1 is opened and discarded
 abbrev pub opening : List Event
 opening = opens (ask 3) ∷ discards 1 ∷ []
 

@@ -1,4 +1,5 @@
--- Document 01, "Numbers we allow": how large an element may be.
+-- Document 01, "Numbers we allow": how large an element may be. `outside` and `widthBad`, which two of the functions cite,
+-- stand in laws, since every order of refusals cites them.
 use Prim.Native.Nat.{ℕ, _-_, _^_}
 use mathlib.Core.Bool.{Bool}
 use mathlib.Core.List.{List}

@@ -10,7 +10,7 @@ use Rattle.laws.proofs.Refusals.{written}
 use borrow.Author.Tests.{eq-eqb}
 use Rattle.arith.specs.Codec.{rowOf, valueLength, valueOf}
 use Rattle.client.specs.Table.{pending, slotOf, digestAt}
-use Rattle.client.specs.Open.{Asked, errorOf, keyOf, secretOf, noisy, marked}
+use Rattle.client.specs.Open.{Asked, errorOf, storedSecret, secretOf, noisy, marked}
 use Rattle.client.specs.Reply.{slotFor, rowFor, rowNumber, replyNumber, replyOf, replyValue}
 use Rattle.client.specs.Lines.{readNumber, readTicket, readColumns, readAfter}
 use Rattle.recovery.specs.Store.{Store, Sound, served, Calm, wanted}
@@ -24,7 +24,8 @@ use Rattle.recovery.proofs.Touched.{own-slot}
 use Rattle.recovery.proofs.Errors.{error-word}
 use Rattle.recovery.proofs.Query.{well-placed, rows-in, length-marked, query-is, query-word}
 use Rattle.recovery.proofs.Line.{line-back}
-use Rattle.recovery.proofs.Row.{recovered-row, length-product}
+use Rattle.plain.proofs.matrix.Cells.{length-product}
+use Rattle.recovery.proofs.Row.{recovered-row}
 use Rattle.recovery.proofs.Value.{Gives, value-read, placed}
 
 module _ (st : Store) (sound : Sound st) where
@@ -86,7 +87,7 @@ module _ (st : Store) (sound : Sound st) where
     w = p .since
 
     own : (digestAt (u .table) (slotOf (u .table) (s .table .next)) ≡ a .digest)
-        × (row (st .columns) (u .slab) (slotOf (u .table) (s .table .next)) ≡ keyOf (asking st s a))
+        × (row (st .columns) (u .slab) (slotOf (u .table) (s .table .next)) ≡ storedSecret (asking st s a))
     own = rw (w .is) (held st s a (healthy s u a w) (w .digest) (w .opened) (w .later) (w .typed) (rw (w .is) at (p .still)))
 
     recovers : Calm st (errorOf (asking st s a)) → (masks value : List ℕ) → Roomy u (honest st s a masks value)

@@ -3,16 +3,14 @@ use mathlib.Core.Path.{_≡_, refl, _∙_}
 use mathlib.Core.Bool.{false}
 use mathlib.Core.List.{List, [], _∷_, _++_}
 use Prim.Native.Nat.{ℕ, _+_, _*_, _<_, _≤_}
-use native.Mathlib.Nat.{one-mul}
 use native.Mathlib.Omega.{arith}
 use lib.ListN.{length, replicate, length-replicate}
 use Rattle.laws.specs.Lists.{splice}
 use Rattle.laws.proofs.Lists.{room}
 use Rattle.laws.proofs.Splice.{length-splice}
-use Rattle.plain.specs.Matrix.{times}
-use Rattle.plain.proofs.matrix.Cells.{length-grid}
+use Rattle.plain.proofs.matrix.Cells.{length-product}
 use Rattle.client.specs.Table.{Sized, malformed, slotOf, freshNumber}
-use Rattle.client.specs.Open.{Asked, keyOf}
+use Rattle.client.specs.Open.{Asked, secretOf, storedSecret}
 use Rattle.client.proofs.table.Lengths.{fresh-sized, taken-sized, closed-sized}
 use Rattle.client.proofs.table.Slots.{slot-free, slot-pending}
 use Rattle.client.proofs.table.Formed.{fresh-formed, taken-formed, closed-formed}
@@ -40,9 +38,8 @@ start-healthy st slab sound whole = record {
 }
 
 -- a secret times the hint is as long as a slot of the slab, which has room for it
-pub length-key : (a : Asked) → length (keyOf a) ≡ a .table .columns
-unfolding times
-length-key a = length-grid 1 (a .table .columns) _ ∙ one-mul (a .table .columns)
+pub length-stored : (a : Asked) → length (storedSecret a) ≡ a .table .columns
+length-stored a = length-product (a .n) (a .table .columns) (secretOf a) (a .hint)
 
 pub slot-fits : (st : Store) (s : State) (q : ℕ) → q < 64 → Healthy st s
     → q * s .table .columns + s .table .columns ≤ length (s .slab)
@@ -63,7 +60,7 @@ does-healthy {st} {s} (takes a whole free) h =
       formed = taken-formed (s .table) (a .digest) (h .sized) whole (h .formed) (free .0) (free .1);
       width = h .width;
       columns = h .columns;
-      slab = filled s (slotOf (s .table) 0) (keyOf (asking st s a)) l (length-key (asking st s a)) h;
+      slab = filled s (slotOf (s .table) 0) (storedSecret (asking st s a)) l (length-stored (asking st s a)) h;
       next = (let n = h .next in let ne = free .2 in omega arith);
     }
 does-healthy {st} {s} (closes ticket _ _ _ was _) h =

@@ -14,7 +14,7 @@ use Rattle.laws.proofs.Search.{some-holds}
 use Rattle.laws.proofs.Splice.{row-replaced}
 use Rattle.client.specs.declared.table.Table.{Table}
 use Rattle.client.specs.Table.{numberAt, digestAt, malformed, slotOf, pending}
-use Rattle.client.specs.Open.{keyOf, openNumber}
+use Rattle.client.specs.Open.{storedSecret, openNumber}
 use Rattle.client.proofs.table.Tests.{numbered}
 use Rattle.client.proofs.table.Slots.{slot-free, slot-pending, number-here, digest-here}
 use Rattle.client.proofs.table.Formed.{formed, one-slot}
@@ -22,7 +22,7 @@ use Rattle.client.proofs.table.Pending.{pending-set}
 use Rattle.recovery.specs.Store.{Store}
 use Rattle.recovery.specs.Run.{State, Ask, Event, opens, asking, step, run, Typed, openedBy, one}
 use Rattle.recovery.proofs.Steps.{open-passed, took}
-use Rattle.recovery.proofs.Healthy.{Healthy, length-key, slot-fits, step-healthy, typed-parts}
+use Rattle.recovery.proofs.Healthy.{Healthy, length-stored, slot-fits, step-healthy, typed-parts}
 use Rattle.recovery.proofs.Touched.{others-same, touched-number}
 use Rattle.recovery.proofs.Groups.{range-step}
 
@@ -104,7 +104,7 @@ module _ (st : Store) (s : State) (a : Ask) (h : Healthy st s) (whole : length (
   opened-healthy = step-healthy st s (opens a) (whole, tt) h
 
   -- the slot that was taken holds the digest and the secret
-  opened-given : Given st (s .table .next) next-ticket (a .digest) (keyOf (asking st s a)) (step st s (opens a))
+  opened-given : Given st (s .table .next) next-ticket (a .digest) (storedSecret (asking st s a)) (step st s (opens a))
   opened-given = rw done record { before = omega arith; holds = holds }
     where
       slot : ℕ
@@ -114,21 +114,21 @@ module _ (st : Store) (s : State) (a : Ask) (h : Healthy st s) (whole : length (
       l = slot-free (s .table) (open-passed (asking st s a) done .1) .0
 
       holds : pending (took st s a .table) (s .table .next) ≡ true
-          → Holds st (s .table .next) next-ticket (a .digest) (keyOf (asking st s a)) (took st s a)
+          → Holds st (s .table .next) next-ticket (a .digest) (storedSecret (asking st s a)) (took st s a)
           (slotOf (took st s a .table) (s .table .next))
       holds w =
           let well : Healthy st (took st s a) = rw done at opened-healthy in
           let has = number-here (s .table) slot (s .table .next + 1) (s .table .next) (a .digest) l (h .sized) in
           rw (← own (took st s a .table) (s .table .next) slot (well .formed) w l has) (
             digest-here (s .table) slot (s .table .next + 1) (s .table .next) (a .digest) l (h .sized) whole,
-            row-here st s h slot (keyOf (asking st s a)) l (length-key (asking st s a)),
+            row-here st s h slot (storedSecret (asking st s a)) l (length-stored (asking st s a)),
           )
 
   pub held : (es : List Event) → Typed es
       → let u = run st (step st s (opens a)) es in
       let slot = slotOf (u .table) (s .table .next) in
       pending (u .table) (s .table .next) ≡ true
-      → (digestAt (u .table) slot ≡ a .digest) × (row (st .columns) (u .slab) slot ≡ keyOf (asking st s a))
+      → (digestAt (u .table) slot ≡ a .digest) × (row (st .columns) (u .slab) slot ≡ storedSecret (asking st s a))
   held es typed =
-      given-run st (s .table .next) next-ticket (a .digest) (keyOf (asking st s a)) (step st s (opens a)) es typed
+      given-run st (s .table .next) next-ticket (a .digest) (storedSecret (asking st s a)) (step st s (opens a)) es typed
       opened-healthy opened-given .holds

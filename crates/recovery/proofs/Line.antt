@@ -16,7 +16,8 @@ use Rattle.arith.specs.Codec.{columnsBad}
 use Rattle.client.specs.Lines.{frame, lineTicket, lineColumns, lineWords, lineBad, readNumber, readTicket, readColumns, readAfter}
 use Rattle.client.proofs.lines.RoundTrip.{read-back}
 use Rattle.recovery.specs.Store.{Store, Sound, served, servedLine}
-use Rattle.recovery.proofs.Row.{length-product, product-small}
+use Rattle.plain.proofs.matrix.Cells.{length-product}
+use Rattle.recovery.proofs.Row.{product-small}
 
 -- the words of a line are as many as it says
 length-words : (line : List ℕ) → length (lineWords line) ≡ lineColumns line

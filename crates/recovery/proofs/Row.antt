@@ -3,7 +3,7 @@ use mathlib.Core.Path.{_≡_, refl, sym, ap, ap₂, _∙_}
 use mathlib.Core.Bool.{Bool, true, false, cond}
 use mathlib.Core.List.{List}
 use Prim.Native.Nat.{ℕ, _+_, _-_, _*_, _%_, _^_, _≤_, _<_}
-use native.Mathlib.Nat.{one-mul, mod-lt}
+use native.Mathlib.Nat.{mod-lt}
 use native.Mathlib.Omega.{arith}
 use lib.ListN.{length, getD}
 use Rattle.laws.specs.Lists.{build}
@@ -13,7 +13,7 @@ use Rattle.laws.proofs.Refusals.{inside}
 use Rattle.laws.proofs.Sums.{sum-plus, sum-mul, cong-eq, cong-sym, cong-trans, cong-wrap, cong-add, cong-mul-right, cong-sum, mod-in}
 use Rattle.plain.specs.Matrix.{cell, times}
 use Rattle.leaves.specs.Positions.{among, positionsBad}
-use Rattle.plain.proofs.matrix.Cells.{length-grid, product-word}
+use Rattle.plain.proofs.matrix.Cells.{length-product, product-word}
 use Rattle.plain.proofs.matrix.Associates.{times-associates}
 use Rattle.builder.specs.Database.{rowsSum}
 use Rattle.leaves.specs.Rounding.{delta, rounded}
@@ -24,14 +24,9 @@ use Rattle.recovery.proofs.Noise.{above, below, quiet-small, noise-part
 use Rattle.recovery.proofs.Rounding.{rounded-cong}
 use Rattle.recovery.proofs.Places.{sum-among}
 
--- Words times a matrix: the words are a matrix of one row.
-module _ (m c : ℕ) (v y : List ℕ) where
-  pub length-product : length (times 1 m c v y) ≡ c
-  unfolding times
-  length-product = length-grid 1 c _ ∙ one-mul c
-
-  pub product-small : (j : ℕ) → j < c → getD (times 1 m c v y) j 0 < 2 ^ 32
-  product-small j h = rw (product-word m c v y j h) (mod-lt (sum m (λ t. getD v t 0 * cell c y t j)) {m = 2 ^ 32} (omega arith))
+pub product-small : (m c : ℕ) (v y : List ℕ) (j : ℕ) → j < c → getD (times 1 m c v y) j 0 < 2 ^ 32
+product-small m c v y j h =
+    rw (product-word m c v y j h) (mod-lt (sum m (λ t. getD v t 0 * cell c y t j)) {m = 2 ^ 32} (omega arith))
 
 -- a marked entry of the query, times an entry of the database
 spread : (t : Bool) (x y k d : ℕ) → (x + y + cond t k 0) * d ≡ x * d + y * d + cond t (k * d) 0

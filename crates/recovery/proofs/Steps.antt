@@ -14,7 +14,7 @@ use Rattle.laws.specs.Lists.{splice}
 use Rattle.laws.proofs.Refusals.{all-clear}
 use Rattle.client.specs.declared.table.Table.{Table}
 use Rattle.client.specs.Table.{digestPending, full, pending, slotOf, taken, closed, wiped}
-use Rattle.client.specs.Open.{Asked, openTests, openNumber, wraps, noisyOf, keyOf}
+use Rattle.client.specs.Open.{Asked, openTests, openNumber, wraps, noisyOf, storedSecret}
 use Rattle.client.specs.Reply.{Received, replyNumber, closing}
 use Rattle.client.specs.Discard.{discardNumber}
 use Rattle.client.specs.Lines.{readNumber}
@@ -46,7 +46,7 @@ closes-pending a e =
 abbrev pub took : Store → State → Ask → State
 took st s a = record {
   table = taken (s .table) (slotOf (s .table) 0) (a .digest);
-  slab = splice (slotOf (s .table) 0 * s .table .columns) (keyOf (asking st s a)) (s .slab);
+  slab = splice (slotOf (s .table) 0 * s .table .columns) (storedSecret (asking st s a)) (s .slab);
 }
 
 abbrev pub shut : State → ℕ → State

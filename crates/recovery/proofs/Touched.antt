@@ -7,12 +7,12 @@ use lib.ListN.{length, replicate, length-replicate, List·getD-eq-default}
 use Rattle.laws.specs.Lists.{row, splice}
 use Rattle.laws.proofs.Splice.{row-kept}
 use Rattle.client.specs.Table.{numberAt, slotOf}
-use Rattle.client.specs.Open.{keyOf}
+use Rattle.client.specs.Open.{storedSecret}
 use Rattle.client.proofs.table.Slots.{Kept, slot-free, slot-pending, number-here, taken-others, closed-others}
 use Rattle.recovery.specs.Store.{Store}
 use Rattle.recovery.specs.Run.{State, Event, asking, step, Typed, openedBy, touched}
 use Rattle.recovery.proofs.Steps.{Does, still, takes, closes, does}
-use Rattle.recovery.proofs.Healthy.{Healthy, length-key, slot-fits}
+use Rattle.recovery.proofs.Healthy.{Healthy, length-stored, slot-fits}
 
 -- slot p holds in u what it holds in s: number, digest and secret
 pub record Same (st : Store) (u s : State) (p : ℕ) : Type 0 where
@@ -32,7 +32,7 @@ module _ {st : Store} {s : State} (h : Healthy st s) where
       let l = slot-free (s .table) (free .1) .0 in
       record {
         table = taken-others (s .table) (slotOf (s .table) 0) (a .digest) l (h .sized) whole p ne;
-        secret = other-row (slotOf (s .table) 0) (keyOf (asking st s a)) l (length-key (asking st s a)) p ne;
+        secret = other-row (slotOf (s .table) 0) (storedSecret (asking st s a)) l (length-stored (asking st s a)) p ne;
       }
   does-others (closes ticket _ _ _ was _) p ne =
       let l = slot-pending (s .table) ticket was .0 in

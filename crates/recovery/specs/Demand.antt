@@ -8,7 +8,7 @@ use Rattle.laws.specs.Lists.{row, laid}
 use Rattle.arith.specs.Codec.{rowOf, encodeNumber}
 use Rattle.builder.specs.Database.{buildNumber, buildAfter}
 use Rattle.client.specs.Table.{malformed, pending, slotOf, digestAt}
-use Rattle.client.specs.Open.{openNumber, openLeft, errorOf, keyOf}
+use Rattle.client.specs.Open.{openNumber, openLeft, errorOf, storedSecret}
 use Rattle.client.specs.Reply.{lentBad, rowFor, replyNumber, replyOf, replyValue}
 use Rattle.client.specs.Lines.{frame}
 use Rattle.recovery.specs.Store.{Store, served, servedLine, Calm, wanted}
@@ -85,7 +85,7 @@ pub record Demand (st : Store) : Type 0 where
   -- secret
   pub own : (s u : State) (a : Ask) → Waiting st s a u
       → (digestAt (u .table) (slotOf (u .table) (s .table .next)) ≡ a .digest)
-      × (row (st .columns) (u .slab) (slotOf (u .table) (s .table .next)) ≡ keyOf (asking st s a))
+      × (row (st .columns) (u .slab) (slotOf (u .table) (s .table .next)) ≡ storedSecret (asking st s a))
   -- the honest server's line is read as its ticket and its words, whenever it comes; and where the ticket is not pending, it is
   -- refused with 10 and changes nothing
   pub line : (s u : State) (a : Ask) → Since st s a u → (out masks value : List ℕ) → st .columns ≤ length out

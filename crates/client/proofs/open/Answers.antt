@@ -18,7 +18,7 @@ use Rattle.client.specs.declared.table.Table.{Table}
 use Rattle.client.specs.declared.open.Opening.{Opening}
 use Rattle.client.specs.declared.open.Opening.the-variants as opening
 use Rattle.client.specs.Table.{malformed, digestPending, full, slotOf, taken}
-use Rattle.client.specs.Open.{Asked, askedBad, bothRead, eitherShort, wraps, marked, noisyOf, keyOf, openTests, early, openNumber}
+use Rattle.client.specs.Open.{Asked, askedBad, bothRead, eitherShort, wraps, marked, noisyOf, storedSecret, openTests, early, openNumber}
 use Rattle.client.specs.Open.{OpenSaid, openingNumber, openingTicket, openingRead, openOf, left, openLeft}
 use Rattle.client.proofs.table.Slots.{slot-free}
 use Rattle.client.proofs.open.Opening.{the-type}
@@ -141,7 +141,7 @@ module _ (a : Asked) (e : early a ≡ 0) where
         table = taken (a .table) (slotOf (a .table) 0) (a .digest);
       })
       × (openLeft a
-      ≡ left (splice (slotOf (a .table) 0 * a .table .columns) (keyOf a) (a .slab)) (zeroed (a .secret)) (zeroed (a .error))
+      ≡ left (splice (slotOf (a .table) 0 * a .table .columns) (storedSecret a) (a .slab)) (zeroed (a .secret)) (zeroed (a .error))
       (laid (marked (a .table .b) (a .positions) (noisyOf a)) (a .query)))
   opened w = let n : openNumber a ≡ 0 = rw w at (passed-early a e) in (rw n, rw n)
 

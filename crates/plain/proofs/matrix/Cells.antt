@@ -2,6 +2,7 @@
 use mathlib.Core.Path.{_≡_, sym, ap, _∙_}
 use mathlib.Core.List.{List}
 use Prim.Native.Nat.{ℕ, _+_, _*_, _%_, _^_, _<_}
+use native.Mathlib.Nat.{one-mul}
 use native.Mathlib.Omega.{arith}
 use lib.ListN.{length, getD}
 use Rattle.laws.specs.Lists.{build, row}
@@ -31,7 +32,11 @@ pub cell-times : (r m c : ℕ) (x y : List ℕ) (i j : ℕ) → i < r → j < c
 unfolding times
 cell-times r m c x y i j hi hj = cell-grid r c (λ i j. sum m (λ t. cell m x i t * cell c y t j) % 2 ^ 32) i j hi hj
 
--- words times a matrix: the words are a matrix of one row
+-- Words times a matrix: the words are a matrix of one row.
+pub length-product : (m c : ℕ) (v y : List ℕ) → length (times 1 m c v y) ≡ c
+unfolding times
+length-product m c v y = length-grid 1 c _ ∙ one-mul c
+
 pub product-word : (m c : ℕ) (v y : List ℕ) (j : ℕ) → j < c
     → getD (times 1 m c v y) j 0 ≡ sum m (λ t. getD v t 0 * cell c y t j) % 2 ^ 32
 product-word m c v y j h =
