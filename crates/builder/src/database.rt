@@ -239,6 +239,7 @@ fn place_keys(
 }
 
 // Builds a database of r rows of `columns` elements from `count` keys, lent flat, key after key, in their writing order.
+// A key has four positions, and its target is an index of them, 0 to 3.
 pub fn build_database(
     b: u32,
     r: usize,
