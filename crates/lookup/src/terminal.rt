@@ -11,51 +11,54 @@ use client::reply;
 use client::reply::Reply;
 use client::table::Table;
 
-// The words that the random device gives to an open, n and R of them. They are fixed, so that the run can be held to a file;
-// none is used twice.
-fn drawn(open: u32) -> [u32; 10] {
-    if open == 1 {
-        return [
-            1292086694,
-            108847172,
-            2043092559,
-            3016578368,
-            3291036661,
-            3084469240,
-            2839367942,
-            3558172197,
-            2598498183,
-            693522991,
-        ];
-    }
-    if open == 2 {
-        return [
-            1510188667,
-            761833220,
-            2995420493,
-            3012133119,
-            3347549942,
-            3435174143,
-            1942551667,
-            2700605003,
-            826167318,
-            3945674283,
-        ];
-    }
-    if open == 3 {
-        return [
-            4074616460,
-            3182842956,
-            4261455315,
-            407826148,
-            3773860815,
-            198777561,
-            1029982029,
-            2217380763,
-            2928800126,
-            802084081,
-        ];
-    }
+// The words that the random device gives to the opens, n and R to each. They are fixed, so that the run can be held to a
+// file; none is used twice.
+fn for_ben() -> [u32; 10] {
+    [
+        1292086694,
+        108847172,
+        2043092559,
+        3016578368,
+        3291036661,
+        3084469240,
+        2839367942,
+        3558172197,
+        2598498183,
+        693522991,
+    ]
+}
+
+fn for_ada() -> [u32; 10] {
+    [
+        1510188667,
+        761833220,
+        2995420493,
+        3012133119,
+        3347549942,
+        3435174143,
+        1942551667,
+        2700605003,
+        826167318,
+        3945674283,
+    ]
+}
+
+fn for_ada_again() -> [u32; 10] {
+    [
+        4074616460,
+        3182842956,
+        4261455315,
+        407826148,
+        3773860815,
+        198777561,
+        1029982029,
+        2217380763,
+        2928800126,
+        802084081,
+    ]
+}
+
+fn for_cy() -> [u32; 10] {
     [
         644469806,
         338508828,
@@ -68,6 +71,19 @@ fn drawn(open: u32) -> [u32; 10] {
         3543969181,
         3344824191,
     ]
+}
+
+fn drawn(open: u32) -> [u32; 10] {
+    if open == 1 {
+        return for_ben();
+    }
+    if open == 2 {
+        return for_ada();
+    }
+    if open == 3 {
+        return for_ada_again();
+    }
+    for_cy()
 }
 
 fn refused(number: usize, meaning: &[u8]) {
