@@ -14,6 +14,7 @@ ghost use Rattle.leaves.specs.Digests.{differs};
 ghost use Rattle.client.specs.Table.{numberAt, digestAt, used, alike, malformed};
 ghost use Rattle.client.specs.Table.{slotOf, pending, digestPending, taken, closed, wiped, makingNumber, freshNumber, freshTable, freshAfter};
 
+#[repr(C)]
 pub struct Table {
     pub b: u32,
     pub columns: usize,
