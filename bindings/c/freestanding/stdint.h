@@ -1,0 +1,7 @@
+/* Just what ladletwig.h and lookup.c need, for a clang without headers of its own. */
+#ifndef LADLETWIG_STDINT_H
+#define LADLETWIG_STDINT_H
+typedef __UINT8_TYPE__ uint8_t;
+typedef __UINT32_TYPE__ uint32_t;
+typedef __UINT64_TYPE__ uint64_t;
+#endif

@@ -1,0 +1,72 @@
+#!/bin/sh
+# run.sh: the C program and the Rust tests over the proved archive, on x86-64 and on aarch64. The last line says
+# what ran.
+# The archive is made by `rt staticlib abi`, unless LADLETWIG_ARCHIVE_DIR names a folder with an x86-64 libabi.a.
+set -eu
+here=$(cd "$(dirname "$0")" && pwd)
+root=$(dirname "$here")
+machine=$(uname -m)
+kit=${RATTLE_HOME:-$(dirname "$(dirname "$(rt doc)")")}
+work=$(mktemp -d)
+trap 'rm -rf "$work"' EXIT
+
+# On aarch64 one proof gives both archives: the x86-64 one, and native/ for cargo.
+make_archive() {
+    if [ "$machine" = x86_64 ]; then
+        (cd "$root" && rt staticlib abi)
+    else
+        "$here/native-archive.sh" "$root" abi "$root/target/native"
+    fi
+}
+
+# Our own few declarations stand for the C library's headers, which the kit doesn't have. The program is x86-64, as the
+# archive is: it runs under the kit's own loader, and on another processor under the kit's emulator.
+c_with_kit() {
+    tools=$kit/on/$machine/toolchain/bin lib=$kit/toolchain/lib
+    "$tools/clang" --target=x86_64-unknown-linux-gnu -std=c99 -O2 -fPIC -ffreestanding -nostdinc \
+        -Wall -Wextra -Werror -pedantic -I "$here/c/freestanding" -I "$root/include" \
+        -c "$here/c/lookup.c" -o "$work/lookup.o"
+    "$tools/ld.lld" -pie --dynamic-linker /lib64/ld-linux-x86-64.so.2 -o "$work/lookup" \
+        "$lib/Scrt1.o" "$lib/crti.o" "$lib/crtbeginS.o" "$work/lookup.o" "$archives/libabi.a" \
+        "$lib/libc.so.6" "$lib/libc_nonshared.a" "$lib/libgcc.a" "$lib/crtendS.o" "$lib/crtn.o"
+    emulator=
+    [ "$machine" = x86_64 ] || emulator=$tools/qemu-x86_64
+    $emulator "$lib/ld-linux-x86-64.so.2" --library-path "$lib" "$work/lookup" > "$work/printed" ||
+        { cat "$work/printed"; exit 1; }
+    cat "$work/printed"
+}
+
+# The machine's own compiler and headers must come to the same lines.
+c_with_cc() {
+    cc -std=c99 -O2 -Wall -Wextra -Werror -pedantic -I "$root/include" \
+        "$here/c/lookup.c" "$archives/libabi.a" -o "$work/lookup-cc"
+    "$work/lookup-cc" | cmp - "$work/printed"
+    echo "bindings: the machine's cc gives the same lines"
+}
+
+rust_tests() {
+    LADLETWIG_ARCHIVE_DIR=$linked CARGO_TARGET_DIR=$root/target/bindings \
+        cargo test --release --offline --locked --manifest-path "$here/rust/Cargo.toml"
+}
+
+if [ -n "${LADLETWIG_ARCHIVE_DIR:-}" ]; then
+    archives=$(cd "$LADLETWIG_ARCHIVE_DIR" && pwd)
+    linked=$archives
+    [ "$machine" = x86_64 ] || linked=
+else
+    make_archive
+    archives=$root/target/staticlib
+    linked=$archives
+    [ "$machine" = x86_64 ] || linked=$root/target/native
+fi
+
+c_with_kit
+if [ "$machine" = x86_64 ] && command -v cc > /dev/null; then c_with_cc; fi
+if ! command -v cargo > /dev/null || ! command -v cc > /dev/null; then
+    echo "bindings: C program passed; Rust tests left out: no cargo (or no cc for it to link with) at hand"
+elif [ -z "$linked" ]; then
+    echo "bindings: C program passed; Rust tests left out: LADLETWIG_ARCHIVE_DIR has no archive for $machine"
+else
+    rust_tests
+    echo "bindings: C program and Rust tests passed"
+fi
