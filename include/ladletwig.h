@@ -235,9 +235,9 @@ uint32_t ladletwig_encode_kv_as_row(uint32_t b, size_t columns,
 
 /*
  * Reads a row back.
- * Refuses 1; 2: columns 1..512, columns*b >= 264, row_len = columns, digest_len = 32, value_len >=
+ * Refuses 1; 2: columns 1..512, columns*b >= 264, row_len = columns, digest_len >= 32, value_len >=
  * floor(columns*b/8)-33; 17; 13.
- * digest: its 32 bytes. value: the value at its start. Answers the value's length.
+ * digest: 32 bytes at its start. value: the value at its start. Answers the value's length.
  */
 ladletwig_decoded ladletwig_decode_kv_from_row(uint32_t b, size_t columns,
                                                const uint32_t *row, size_t row_len,

@@ -119,11 +119,11 @@ pub fn encode_kv_as_row(
 
 /// Reads a row back into digest and value, and answers the value's length.
 ///
-/// Refusals in order: 1; 2 (`columns` 1 to 512, `columns`·b at least 264, `row` exactly `columns`, `digest` exactly
+/// Refusals in order: 1; 2 (`columns` 1 to 512, `columns`·b at least 264, `row` exactly `columns`, `digest` at least
 /// 32, `value` at least floor(`columns`·b / 8) - 33); 17; 13.
 ///
-/// After: `digest` holds the 32 bytes, `value` starts with the value and keeps the rest of what it held; on a
-/// refusal both keep all.
+/// After: `digest` starts with the 32 bytes and `value` with the value, and each keeps the rest of what it held; on
+/// a refusal both keep all.
 pub fn decode_kv_from_row(
     b: u32,
     columns: usize,
