@@ -1,0 +1,23 @@
+#!/bin/sh
+# run.sh [WORDS]: the oracle's tests, and then the comparisons, `compare WORDS` (by default 2,000 calls of each entry). Needs the
+# archive of `rt staticlib abi`, a Rust compiler and the Rust's two files; where one of the last two is missing it says so,
+# and nothing is run.
+set -eu
+cd "$(dirname "$0")"
+source=${LADLETWIG_RUST_SOURCE:-$(cd ../.. && pwd)/shared/docs/src}
+archive=${LADLETWIG_ARCHIVE_DIR:-$(cd .. && pwd)/target/staticlib}
+[ "$(uname -m)" = x86_64 ] || archive=${LADLETWIG_ARCHIVE_DIR:-$(cd .. && pwd)/target/native}
+if ! command -v cargo > /dev/null || ! command -v cc > /dev/null; then
+    echo "oracle: LEFT OUT, no Rust compiler (cargo, and cc for it to link with) is at hand"
+    exit 0
+fi
+for file in chalametpir_common/src/matrix.rs chalametpir_client/src/client.rs; do
+    if [ ! -r "$source/$file" ]; then
+        echo "oracle: LEFT OUT, the Rust is not at hand: no $file in \$LADLETWIG_RUST_SOURCE or in shared/docs/src beside the checkout"
+        exit 0
+    fi
+done
+export LADLETWIG_RUST_SOURCE="$source" LADLETWIG_ARCHIVE_DIR="$archive" CARGO_TARGET_DIR="$(cd .. && pwd)/target/oracle"
+[ $# -gt 0 ] || set -- --calls 2000
+cargo test --quiet --offline --locked --release -p model -p reference
+cargo run --quiet --offline --locked --release -p compare -- "$@"
