@@ -1,5 +1,5 @@
 #!/bin/sh
-# run.sh [WORDS]: the oracle's tests, and then the comparisons, `compare WORDS` (by default 2,000 calls of each entry). Needs the
+# run.sh [WORDS]: the oracle's tests, and then the comparisons, `compare WORDS` (by default 20,000 calls of each entry). Needs the
 # archive of `rt staticlib abi`, a Rust compiler and the Rust's two files; where one of the last two is missing it says so,
 # and nothing is run.
 set -eu
@@ -18,6 +18,6 @@ for file in chalametpir_common/src/matrix.rs chalametpir_client/src/client.rs; d
     fi
 done
 export LADLETWIG_RUST_SOURCE="$source" LADLETWIG_ARCHIVE_DIR="$archive" CARGO_TARGET_DIR="$(cd .. && pwd)/target/oracle"
-[ $# -gt 0 ] || set -- --calls 2000
+[ $# -gt 0 ] || set -- --calls 20000
 cargo test --quiet --offline --locked --release -p model -p reference
 cargo run --quiet --offline --locked --release -p compare -- "$@"

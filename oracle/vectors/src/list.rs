@@ -1,23 +1,28 @@
 //! The list's two texts. What a line of each looks like is said in crates/vectors/src/line.rt and main.rt.
 
-/// A call: its number and a word for a reader, then each argument with its name. The program skips the words, so no name may
-/// have a digit in it.
-pub struct Call(String);
+use std::collections::BTreeMap;
+
+/// A call: its number and a word for a reader, then each argument with its name. The program skips the words, so no
+/// name may have a digit in it.
+pub struct Call {
+    entry: u32,
+    text: String,
+}
 
 impl Call {
     pub fn new(entry: u32, name: &str) -> Call {
-        Call(format!("{entry} {name}"))
+        Call { entry, text: format!("{entry} {name}") }
     }
 
     pub fn plain(mut self, name: &str, value: impl std::fmt::Display) -> Call {
-        self.0 += &format!(" {name} {value}");
+        self.text += &format!(" {name} {value}");
         self
     }
 
     pub fn buffer<T: std::fmt::Display>(mut self, name: &str, elements: &[T]) -> Call {
-        self.0 += &format!(" {name} {}:", elements.len());
+        self.text += &format!(" {name} {}:", elements.len());
         for element in elements {
-            self.0 += &format!(" {element}");
+            self.text += &format!(" {element}");
         }
         self
     }
@@ -61,18 +66,19 @@ pub enum By {
 pub struct List {
     pub calls: String,
     pub answers: String,
-    pub rust: usize,
-    pub model: usize,
+    /// For each entry's number, how many lines the Rust answered and how many the model.
+    pub counts: BTreeMap<u32, [usize; 2]>,
     pub bad: usize,
 }
 
 impl List {
     pub fn add(&mut self, call: Call, answer: Answer, by: By) {
-        self.calls += &(call.0 + "\n");
+        self.calls += &(call.text + "\n");
         self.answers += &(answer.0 + "\n");
+        let [rust, model] = self.counts.entry(call.entry).or_default();
         match by {
-            By::Rust => self.rust += 1,
-            By::Model => self.model += 1,
+            By::Rust => *rust += 1,
+            By::Model => *model += 1,
         }
     }
 
@@ -83,8 +89,9 @@ impl List {
         self.bad += 1;
     }
 
-    pub fn lines(&self) -> usize {
-        self.rust + self.model + self.bad
+    /// How many lines the Rust answered, and how many the model.
+    pub fn sums(&self) -> [usize; 2] {
+        self.counts.values().fold([0, 0], |[r, m], [rust, model]| [r + rust, m + model])
     }
 }
 

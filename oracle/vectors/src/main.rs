@@ -1,5 +1,5 @@
-//! Writes crates/vectors' stdin and stdout: calls chosen by a fixed seed, and the oracle's answers. The Rust answers what it
-//! has, and the model must then say the same; the model answers the rest. The library itself is never called.
+//! Writes crates/vectors' stdin and stdout: calls chosen by a fixed seed, and the oracle's answers. The Rust answers
+//! what it has, and the model must then say the same; the model answers the rest. The library itself is never called.
 
 mod builder;
 mod bytes;
@@ -38,8 +38,8 @@ fn made() -> List {
     list
 }
 
-/// No number, an entry that there is none of, numbers missing, one too many, a buffer that runs past the line, a number that
-/// is no word; then a good call, by which the lines after a bad one are seen to be read as ever.
+/// No number, an entry that there is none of, numbers missing, one too many, a buffer that runs past the line, a
+/// number that is no word; then a good call, by which the lines after a bad one are seen to be read as ever.
 fn no_calls(list: &mut List) {
     for line in [
         "",
@@ -66,7 +66,10 @@ fn main() -> std::io::Result<()> {
     let list = made();
     std::fs::write(stdin, &list.calls)?;
     std::fs::write(stdout, &list.answers)?;
-    let List { rust, model, bad, .. } = list;
-    println!("seed {SEED}: {} lines, {rust} answered by the Rust, {model} by the model, {bad} no calls", list.lines());
+    let [rust, model] = list.sums();
+    println!("seed {SEED}: {rust} lines by the Rust, {model} by the model, {} that are no calls", list.bad);
+    for (entry, [rust, model]) in &list.counts {
+        println!("entry {entry}: {rust} by the Rust, {model} by the model");
+    }
     Ok(())
 }

@@ -1,5 +1,5 @@
-//! The table and the slab that the list has at hand, as the program keeps them: one slab for all tables, of which an open, a
-//! reply or a discard is lent the first words.
+//! The table and the slab that the list has at hand, as the program keeps them: one slab for all tables, of which an
+//! open, a reply or a discard is lent the first words.
 
 use crate::list::{Answer, By, Call, List};
 use model::Table;
@@ -121,8 +121,8 @@ impl State {
         number
     }
 
-    /// Not a call: the table's b, columns and next, a slot's number and a byte of the digests. A slot of 64 and a byte of
-    /// 2048 leave them as they are.
+    /// Not a call: the table's b, columns and next, a slot's number and a byte of the digests. A slot of 64 and a
+    /// byte of 2048 leave them as they are.
     pub fn set(&mut self, list: &mut List, to: Set) {
         let t = &mut self.table;
         (t.b, t.columns, t.next) = (to.b, to.columns, to.next);
