@@ -2,67 +2,29 @@
 // first is the entry's, then come its plain arguments, then its buffers in the order of the call: each its length and
 // its elements. A mutable buffer stands there as it is lent.
 
-// Where an entry's buffers start, after its number and its plain arguments, and how many it takes.
-struct Shape {
-    first: usize,
-    buffers: usize,
+// Where an entry's buffers start, after its number and its plain arguments. An entry that there is none of takes more
+// than a line can have.
+fn first_of(entry: u32) -> usize {
+    match entry {
+        9 | 16 | 18 => 1,
+        6 | 7 | 13 | 15 => 2,
+        5 | 8 | 10 | 11 | 14 | 17 | 20 | 21 => 3,
+        1 | 2 | 3 | 4 => 4,
+        12 => 5,
+        22 => 8,
+        19 => 9,
+        _ => 1024,
+    }
 }
 
-// An entry that there is none of takes more than a line can have.
-fn takes(entry: u32) -> Shape {
+// How many buffers an entry takes.
+fn buffers_of(entry: u32) -> usize {
     match entry {
-        1 | 2 => Shape {
-            first: 4,
-            buffers: 2,
-        },
-        3 | 4 => Shape {
-            first: 4,
-            buffers: 3,
-        },
-        5 | 8 => Shape {
-            first: 3,
-            buffers: 2,
-        },
-        6 | 7 | 15 => Shape {
-            first: 2,
-            buffers: 2,
-        },
-        9 | 16 => Shape {
-            first: 1,
-            buffers: 2,
-        },
-        10 | 11 | 20 => Shape {
-            first: 3,
-            buffers: 3,
-        },
-        12 => Shape {
-            first: 5,
-            buffers: 5,
-        },
-        13 => Shape {
-            first: 2,
-            buffers: 0,
-        },
-        14 | 17 | 21 => Shape {
-            first: 3,
-            buffers: 0,
-        },
-        18 => Shape {
-            first: 1,
-            buffers: 0,
-        },
-        19 => Shape {
-            first: 9,
-            buffers: 7,
-        },
-        22 => Shape {
-            first: 8,
-            buffers: 0,
-        },
-        _ => Shape {
-            first: 1024,
-            buffers: 0,
-        },
+        1 | 2 | 5 | 6 | 7 | 8 | 9 | 15 | 16 => 2,
+        3 | 4 | 10 | 11 | 20 => 3,
+        12 => 5,
+        19 => 7,
+        _ => 0,
     }
 }
 
@@ -96,8 +58,7 @@ fn past(w: &[u32], i: usize) -> usize {
 
 // Where the buffer k starts.
 fn start(w: &[u32], k: usize) -> usize {
-    let s = takes(word(w, 0));
-    let mut i = s.first;
+    let mut i = first_of(word(w, 0));
     let mut left = k;
     while 0 < left {
         i = past(w, i);
@@ -111,8 +72,7 @@ pub(crate) fn entry(w: &[u32], count: usize) -> u32 {
     if w.len() <= count {
         return 0;
     }
-    let s = takes(word(w, 0));
-    if start(w, s.buffers) == count {
+    if start(w, buffers_of(word(w, 0))) == count {
         return word(w, 0);
     }
     0

@@ -11,8 +11,8 @@ abbrev μ-loop : tie.MeasureT-loop
 word-requires : tie.Need-word-requires Inv-loop μ-loop
 word-requires c κs = search needs
 
-takes-requires : tie.Need-takes-requires Inv-loop μ-loop
-takes-requires c κs = search needs
+first-of-requires : tie.Need-first-of-requires Inv-loop μ-loop
+first-of-requires c κs = search needs
 
 loop-holds : tie.Need-loop-holds Inv-loop μ-loop
 loop-holds c = search needs
@@ -39,7 +39,7 @@ start-spec =
     Inv-loop
     μ-loop
     word-requires
-    takes-requires
+    first-of-requires
     loop-holds
     past-requires
     sub-left
