@@ -1,12 +1,13 @@
 #!/bin/sh
-# run.sh: the C program and the Rust tests over the proved archive, on x86-64 and on aarch64. The last line says
-# what ran.
+# run.sh: the C program and the Rust tests over the proved archive; the last line says what ran. Made for x86-64 and
+# for aarch64, and so far run on x86-64 alone.
 # The archive is made by `rt staticlib abi`, unless LADLETWIG_ARCHIVE_DIR names a folder with an x86-64 libabi.a.
 set -eu
 here=$(cd "$(dirname "$0")" && pwd)
 root=$(dirname "$here")
 machine=$(uname -m)
-kit=${RATTLE_HOME:-$(dirname "$(dirname "$(rt doc)")")}
+guide=$(rt doc)
+kit=${RATTLE_HOME:-$(dirname "$(dirname "$guide")")}
 work=$(mktemp -d)
 trap 'rm -rf "$work"' EXIT
 
@@ -31,7 +32,7 @@ c_with_kit() {
         "$lib/libc.so.6" "$lib/libc_nonshared.a" "$lib/libgcc.a" "$lib/crtendS.o" "$lib/crtn.o"
     emulator=
     [ "$machine" = x86_64 ] || emulator=$tools/qemu-x86_64
-    $emulator "$lib/ld-linux-x86-64.so.2" --library-path "$lib" "$work/lookup" > "$work/printed" ||
+    ${emulator:+"$emulator"} "$lib/ld-linux-x86-64.so.2" --library-path "$lib" "$work/lookup" > "$work/printed" ||
         { cat "$work/printed"; exit 1; }
     cat "$work/printed"
 }

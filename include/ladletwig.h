@@ -22,7 +22,8 @@
  *   - The table is the caller's memory. It crosses by value: hand it in, and store the one that comes back.
  *   - A refusal changes no buffer and no table and leaves every other value of the answer 0, except where it says
  *     so (6, 13 and 14). When several hold at once, the first in the function's own list is answered.
- *     After a number the list says, where it isn't plain, what must hold for the call not to be refused by it.
+ *     After a 2 the list says what must hold for the call not to be refused by it; after another number, where the
+ *     enum below doesn't say it, when that is given.
  *   - An output may be longer than needed; what lies behind the result keeps what it held.
  *
  * Letters: b is the width of an element in bits, 4 to 14. R is the database's rows, 1 to 4096. C is its columns, 1
@@ -61,12 +62,14 @@ enum ladletwig_number {
     LADLETWIG_PLACEMENT = 15,   /* the order of writing breaks the placement rule */
     LADLETWIG_TOO_LONG = 16,    /* the value is longer than floor(C*b/8)-33 bytes */
     LADLETWIG_ELEMENT = 17,     /* an element of a row is 2^b or more */
-    LADLETWIG_TABLE = 18        /* the table isn't one that these calls could have left behind */
+    LADLETWIG_TABLE = 18        /* the table is malformed (see ladletwig_table) */
 };
 
 /*
  * The pending table: 64 slots, and beside it a slab of 64*C words in which slot s has the C words from s*C on.
- * Store it, copy it, look at it; only the calls below change it.
+ * Store it, copy it, look at it; only the calls below change it. It is malformed (18) exactly when b, C or C*b is outside
+ * its limits, next is 0, a used slot's number is next or more, two used slots have one number or one digest, or a free
+ * slot has a digest byte that isn't 0.
  */
 typedef struct ladletwig_table {
     uint32_t b;
@@ -214,8 +217,8 @@ uint32_t ladletwig_to_bytes(size_t rows, size_t columns,
                             uint8_t *out, size_t out_len);
 
 /*
- * Refuses 11: bytes_len isn't what the dimensions in the bytes give, or is below 8; 2: a dimension outside 1..4096,
- * out_len below rows*columns.
+ * Refuses 11: bytes_len isn't what the dimensions in the bytes give, or is below 8; 2: rows, columns 1..4096, out_len
+ * >= rows*columns.
  * out: the words. Answers the dimensions.
  */
 ladletwig_parsed ladletwig_from_bytes(const uint8_t *bytes, size_t bytes_len,
@@ -283,7 +286,7 @@ uint32_t ladletwig_rounded(uint32_t b, uint32_t u);
  */
 ladletwig_made ladletwig_fresh(uint32_t b, size_t columns);
 
-/* Whether each call below would refuse this table with 18. */
+/* Whether an open, a reply and a discard would refuse this table with 18. */
 bool ladletwig_is_malformed(ladletwig_table table);
 
 /*
@@ -345,7 +348,7 @@ ladletwig_line_written ladletwig_write_query_line(uint32_t ticket,
 /*
  * Reads a response line, the line feed included.
  * Refuses 11: anything but exactly one whole response line with a ticket other than 0, one row, 1..4096 columns; 2:
- * out_len below the columns.
+ * out_len >= columns.
  * out: the words. Answers ticket and columns.
  */
 ladletwig_line_read ladletwig_read_response_line(const uint8_t *line, size_t line_len,

@@ -3,10 +3,12 @@
 # archive of `rt staticlib abi`, a Rust compiler and the Rust's two files; where one of the last two is missing it says so,
 # and nothing is run.
 set -eu
-cd "$(dirname "$0")"
-source=${LADLETWIG_RUST_SOURCE:-$(cd ../.. && pwd)/shared/docs/src}
-archive=${LADLETWIG_ARCHIVE_DIR:-$(cd .. && pwd)/target/staticlib}
-[ "$(uname -m)" = x86_64 ] || archive=${LADLETWIG_ARCHIVE_DIR:-$(cd .. && pwd)/target/native}
+here=$(cd "$(dirname "$0")" && pwd)
+root=$(dirname "$here")
+usual=$root/target/staticlib
+[ "$(uname -m)" = x86_64 ] || usual=$root/target/native
+source=${LADLETWIG_RUST_SOURCE:-$(dirname "$root")/shared/docs/src}
+archive=${LADLETWIG_ARCHIVE_DIR:-$usual}
 if ! command -v cargo > /dev/null || ! command -v cc > /dev/null; then
     echo "oracle: LEFT OUT, no Rust compiler (cargo, and cc for it to link with) is at hand"
     exit 0
@@ -17,7 +19,12 @@ for file in chalametpir_common/src/matrix.rs chalametpir_client/src/client.rs; d
         exit 0
     fi
 done
-export LADLETWIG_RUST_SOURCE="$source" LADLETWIG_ARCHIVE_DIR="$archive" CARGO_TARGET_DIR="$(cd .. && pwd)/target/oracle"
+# Whole paths: a build script runs in the folder of its own package.
+LADLETWIG_RUST_SOURCE=$(cd "$source" && pwd)
+LADLETWIG_ARCHIVE_DIR=$(cd "$archive" && pwd)
+CARGO_TARGET_DIR=$root/target/oracle
+export LADLETWIG_RUST_SOURCE LADLETWIG_ARCHIVE_DIR CARGO_TARGET_DIR
+cd "$here"
 [ $# -gt 0 ] || set -- --calls 20000
 cargo test --quiet --offline --locked --release -p model -p reference
 cargo run --quiet --offline --locked --release -p compare -- "$@"

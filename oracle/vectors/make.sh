@@ -4,5 +4,6 @@
 set -eu
 cd "$(dirname "$0")"
 crate=../../crates/vectors
-target=${CARGO_TARGET_DIR:-$(mktemp -d)}
-CARGO_TARGET_DIR=$target cargo run --offline --release -q -j1 -p vectors -- "$crate/stdin" "$crate/stdout"
+CARGO_TARGET_DIR=${CARGO_TARGET_DIR:-$(cd ../.. && pwd)/target/oracle}
+export CARGO_TARGET_DIR
+cargo run --offline --locked --release --quiet -p vectors -- "$crate/stdin" "$crate/stdout"

@@ -46,7 +46,7 @@ pub enum Refusal {
     TooLong = 16,
     /// 17: an element of a row doesn't fit into b bits.
     Element = 17,
-    /// 18: the table isn't one that these calls could have left behind.
+    /// 18: the table is malformed; [`Table`](crate::Table) says when one is.
     Table = 18,
 }
 

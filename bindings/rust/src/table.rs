@@ -9,8 +9,9 @@ use crate::refusal::{answer, Refusal};
 /// 64 slots of pending queries, owned by the caller. The secrets that belong to them lie in a slab of 64·C words
 /// that is lent to each call beside the table: slot s has the C words from s·C on.
 ///
-/// The fields are open so that a table can be stored and looked at. A table that these calls couldn't have left
-/// behind is refused with 18 and never misread. The slab can't be checked in this way: between calls nobody else
+/// The fields are open so that a table can be stored and looked at. A malformed one is refused with 18: b, C or C·b
+/// outside its limits, next 0, a used slot's number at next or above, two used slots with one number or one digest,
+/// or a free slot with a digest byte other than 0. The slab can't be checked in this way: between calls nobody else
 /// may write it.
 #[derive(Clone, Debug, PartialEq, Eq)]
 #[repr(C)]

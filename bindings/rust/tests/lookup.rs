@@ -58,7 +58,7 @@ fn replies_in_another_order_find_their_tickets() {
 
 #[test]
 fn the_largest_database() {
-    let size = Size { b: 10, columns: 512, r: 4096, n: 1774 };
+    let size = Size { b: 10, columns: 512, r: 4096, n: 2048 };
     let mut shop = Shop::new(size, 4093);
     fetch_all(&mut shop, [0, 1, 2046, 4092].into_iter());
 }

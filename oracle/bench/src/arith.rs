@@ -27,6 +27,7 @@ pub fn packing(b: u32) -> Vec<Row> {
     let mut out = vec![0; C * R];
     let ours = median(|| (), |()| ladletwig::row_wise_decompress(b, C, R, &packed, &mut out));
     assert_eq!(out, elements);
+    assert_eq!(rust_packed.clone().row_wise_decompress(b as usize, R as u32).unwrap().words(), elements);
     let rust = median(|| rust_packed.clone(), |matrix| matrix.row_wise_decompress(b as usize, R as u32));
     let unpacking = Row::both("row_wise_decompress", b, ours, rust);
     vec![packing, unpacking, packed_product(b, &packed, &rust_packed)]
@@ -95,6 +96,7 @@ pub fn matrix_bytes() -> Vec<Row> {
     let ours = median(|| (), |()| ladletwig::from_bytes(&bytes, &mut out));
     assert_eq!(out, words);
     let bytes = aligned(bytes);
+    assert_eq!(Matrix::from_bytes(&bytes).unwrap().words(), words);
     let rust = median(|| (), |()| Matrix::from_bytes(&bytes));
     vec![writer, Row::both("from_bytes, n x C", None, ours, rust)]
 }

@@ -11,6 +11,11 @@ pub mod client {
             self.pending_queries.get(key).map(|query| query.vec_c.words())
         }
 
+        /// Makes a query pending that no open has made.
+        pub fn pend(&mut self, key: &[u8], secret: Matrix) {
+            self.insert_query(key, Query { vec_c: secret });
+        }
+
         pub fn pending(&self) -> usize {
             self.pending_queries.len()
         }

@@ -1,6 +1,8 @@
 //! The C face of the entries that answer with more than a number. The safe crate hides what comes beside a refusal, and
 //! 01 says that it is zero; so a refused call is made again here, to see it.
 
+use std::mem::size_of;
+
 use ladletwig::Table;
 
 #[repr(C)]
@@ -54,6 +56,11 @@ pub struct LineRead {
     pub ticket: u32,
     pub columns: usize,
 }
+
+// The layouts that include/ladletwig.h gives; `bindings/rust` has a test of its own for its copies.
+const _: () = assert!(size_of::<Positions>() == 16 && size_of::<Sampled>() == 16 && size_of::<Parsed>() == 24);
+const _: () = assert!(size_of::<Length>() == 16 && size_of::<LineRead>() == 16 && size_of::<Table>() == 2328);
+const _: () = assert!(size_of::<Made>() == 2336 && size_of::<Opened>() == 2344 && size_of::<Replied>() == 2344);
 
 #[rustfmt::skip] // a line for each lent buffer: pointer, then length in elements
 extern "C" {

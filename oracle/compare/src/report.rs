@@ -12,7 +12,7 @@ pub struct Entry {
     pub calls: u64,
     name: &'static str,
     note: &'static str,
-    seed: u64,
+    pub seed: u64,
     listed: &'static [u32],
     never: &'static [(u32, u32, &'static str)],
     successes: u64,

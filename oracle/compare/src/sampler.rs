@@ -17,12 +17,7 @@ pub struct Sample<const SISTER: bool> {
 impl<const SISTER: bool> Sample<SISTER> {
     /// Enough words for `wanted`, and `more` behind them.
     fn of(rng: &mut Rng, interval: u32, wanted: usize, more: usize) -> Self {
-        let (mut words, mut accepted) = (Vec::new(), 0);
-        while accepted < wanted {
-            let word = rng.draw(interval);
-            accepted += usize::from(model::ternary(interval, word).is_some());
-            words.push(word);
-        }
+        let mut words = enough_words(rng, interval, wanted);
         words.extend((0..more).map(|_| rng.draw(interval)));
         Sample { interval, words, out: rng.words(wanted) }
     }
@@ -37,6 +32,17 @@ impl<const SISTER: bool> Sample<SISTER> {
             self.words.clear();
         }
     }
+}
+
+/// Random words of which `wanted` are accepted, the last of them too.
+pub fn enough_words(rng: &mut Rng, interval: u32, wanted: usize) -> Vec<u32> {
+    let (mut words, mut accepted) = (Vec::new(), 0);
+    while accepted < wanted {
+        let word = rng.draw(interval);
+        accepted += usize::from(model::ternary(interval, word).is_some());
+        words.push(word);
+    }
+    words
 }
 
 /// Ends the words right before the accepted one that would make `wanted`.
@@ -86,8 +92,6 @@ impl<const SISTER: bool> Subject for Sample<SISTER> {
             let tail = face::sample_and_return_unread(*interval, words, &mut ours);
             let expected = model::sample_and_return_unread(*interval, words, &mut theirs);
             log.same((tail, &ours), (expected, &theirs), self);
-            // The tail is a part of the words themselves, not a copy.
-            log.owed(tail.as_ptr_range().end, words.as_ptr_range().end, self);
             words.len() - tail.len()
         } else {
             let answer = face::sample_from_uniform_ternary_dist(*interval, words, &mut ours);
