@@ -1,7 +1,7 @@
 #!/bin/sh
-# run.sh [WORDS]: the oracle's tests, and then the comparisons, `compare WORDS` (by default 20,000 calls of each entry). Needs the
-# archive of `rt staticlib abi`, a Rust compiler and the Rust's two files; where one of the last two is missing it says so,
-# and nothing is run.
+# run.sh [WORDS]: the oracle's tests, and then the comparisons, `compare WORDS` (by default 20,000 calls of each entry).
+# Needs the archive of `rt staticlib abi`, a Rust compiler and the Rust's two files; where one of the last two is missing
+# it says so, and nothing is run.
 set -eu
 here=$(cd "$(dirname "$0")" && pwd)
 root=$(dirname "$here")
@@ -15,7 +15,8 @@ if ! command -v cargo > /dev/null || ! command -v cc > /dev/null; then
 fi
 for file in chalametpir_common/src/matrix.rs chalametpir_client/src/client.rs; do
     if [ ! -r "$source/$file" ]; then
-        echo "oracle: LEFT OUT, the Rust is not at hand: no $file in \$LADLETWIG_RUST_SOURCE or in shared/docs/src beside the checkout"
+        echo "oracle: LEFT OUT, the Rust is not at hand: no $file in LADLETWIG_RUST_SOURCE, or in shared/docs/src" \
+            "beside the checkout"
         exit 0
     fi
 done
