@@ -6,7 +6,7 @@ set -eu
 here=$(cd "$(dirname "$0")" && pwd)
 root=$(dirname "$here")
 machine=$(uname -m)
-guide=$(rt doc)
+if [ -z "${RATTLE_HOME:-}" ]; then guide=$(rt doc); fi # by itself, so that a failure of rt ends the run
 kit=${RATTLE_HOME:-$(dirname "$(dirname "$guide")")}
 work=$(mktemp -d)
 trap 'rm -rf "$work"' EXIT
