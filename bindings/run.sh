@@ -63,10 +63,10 @@ fi
 
 c_with_kit
 if [ "$machine" = x86_64 ] && command -v cc > /dev/null; then c_with_cc; fi
-if ! command -v cargo > /dev/null || ! command -v cc > /dev/null; then
-    echo "bindings: C program passed; Rust tests left out: no cargo (or no cc for it to link with) at hand"
+if ! "$here/rust-at-hand.sh"; then
+    echo "bindings: C program passed; Rust tests LEFT OUT: no Rust compiler (cargo, rustc 1.82 or later, cc) is at hand"
 elif [ -z "$linked" ]; then
-    echo "bindings: C program passed; Rust tests left out: LADLETWIG_ARCHIVE_DIR has no archive for $machine"
+    echo "bindings: C program passed; Rust tests LEFT OUT: LADLETWIG_ARCHIVE_DIR has no archive for $machine"
 else
     rust_tests
     echo "bindings: C program and Rust tests passed"

@@ -9,8 +9,8 @@ usual=$root/target/staticlib
 [ "$(uname -m)" = x86_64 ] || usual=$root/target/native
 source=${LADLETWIG_RUST_SOURCE:-$(dirname "$root")/shared/docs/src}
 archive=${LADLETWIG_ARCHIVE_DIR:-$usual}
-if ! command -v cargo > /dev/null || ! command -v cc > /dev/null; then
-    echo "oracle: LEFT OUT, no Rust compiler (cargo, and cc for it to link with) is at hand"
+if ! "$root/bindings/rust-at-hand.sh"; then
+    echo "oracle: LEFT OUT, no Rust compiler (cargo, rustc 1.82 or later, cc) is at hand"
     exit 0
 fi
 for file in chalametpir_common/src/matrix.rs chalametpir_client/src/client.rs; do
