@@ -1,4 +1,5 @@
-//! calculate_query_indicator and rounded, which give no number.
+//! calculate_query_indicator and rounded, which give no number. Where b is none of 01's, the library is held to what was
+//! decided, and not to the model.
 
 use crate::face;
 use crate::report::Entry;
@@ -28,7 +29,7 @@ impl Subject for Indicator {
     fn run(&self, log: &mut Entry) {
         log.call(&[]);
         let answer = face::calculate_query_indicator(self.b);
-        log.same(answer, model::calculate_query_indicator(self.b), self);
+        log.same(answer, model::decided::calculate_query_indicator(self.b), self);
         if (4..=14).contains(&self.b) {
             log.rust(answer, reference::calculate_query_indicator(self.b), self);
         }
@@ -63,7 +64,7 @@ impl Subject for Rounded {
 
     fn run(&self, log: &mut Entry) {
         log.call(&[]);
-        log.same(face::rounded(self.b, self.u), model::rounded(self.b, self.u), self);
+        log.same(face::rounded(self.b, self.u), model::decided::rounded(self.b, self.u), self);
     }
 }
 

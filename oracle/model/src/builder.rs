@@ -1,25 +1,32 @@
-//! 01, "Builder".
+//! 01, "Builder": the database D from keys in a proposed writing order.
 
-use crate::refusal::{element_bad, length_bad, low, outside, positions_bad, times, width_bad, Tests};
+use std::collections::BTreeSet;
 
-/// The keys' positions, four a key, as far as they are lent.
-fn groups(positions: &[u32]) -> impl Iterator<Item = [u32; 4]> + '_ {
-    positions.chunks_exact(4).map(|at| [at[0], at[1], at[2], at[3]])
+use crate::refusal::{
+    bad_elements, bad_positions, bad_width, differs, modulo, outside, too_short, Tests, COLUMNS, ROWS,
+};
+
+/// Key `key`'s four positions.
+fn positions_of(positions: &[u32], key: usize) -> [u32; 4] {
+    std::array::from_fn(|i| positions[4 * key + i])
 }
 
-/// 15's test, over the keys in their writing order.
-fn placement_bad(r: usize, positions: &[u32], targets: &[u32]) -> bool {
-    let mut written = std::collections::HashSet::new();
-    for (at, &target) in groups(positions).zip(targets) {
-        if positions_bad(r, at) || target > 3 || written.contains(&at[target as usize]) {
+/// "Some key has positions bad in the sense of 5 or an index above 3, or its target position is among the positions of
+/// a key written before it."
+fn placement_broken(r: usize, positions: &[u32], targets: &[u32]) -> bool {
+    let mut before = BTreeSet::new();
+    for (key, &target) in targets.iter().enumerate() {
+        let four = positions_of(positions, key);
+        if bad_positions(four, r) || target > 3 || before.contains(&four[target as usize]) {
             return true;
         }
-        written.extend(at);
+        before.extend(four);
     }
     false
 }
 
-#[allow(clippy::too_many_arguments)] // 01's, in the C face's order
+/// "Builder: 1, 2, 17, 15." "Keys, 0 to R of them (more is 2)", each with C elements, C masks, four positions and a
+/// target; "the builder has no such bound" on C·b.
 pub fn build_database_tests<'a>(
     b: u32,
     r: usize,
@@ -31,23 +38,32 @@ pub fn build_database_tests<'a>(
     targets: &'a [u32],
     database: &'a [u32],
 ) -> Tests<'a> {
-    Tests::in_order()
-        .then(1, move || width_bad(b))
+    Tests::none()
+        .then(1, move || bad_width(b))
         .then(2, move || {
-            outside(r, 4096)
-                || outside(columns, 512)
+            outside(r, ROWS)
+                || outside(columns, COLUMNS)
                 || count > r
-                || length_bad(rows.len(), count, columns)
-                || length_bad(masks.len(), count, columns)
-                || length_bad(positions.len(), count, 4)
+                || differs(rows.len(), count, columns)
+                || differs(masks.len(), count, columns)
+                || differs(positions.len(), count, 4)
                 || targets.len() != count
-                || (database.len() as u128) < times(r, columns)
+                || too_short(database.len(), r, columns)
         })
-        .then(17, move || element_bad(b, rows))
-        .then(15, move || placement_bad(r, positions, targets))
+        .then(17, move || bad_elements(b, rows))
+        .then(15, move || {
+            let there = !differs(positions.len(), count, 4) && targets.len() == count;
+            there && placement_broken(r, positions, targets)
+        })
 }
 
-#[allow(clippy::too_many_arguments)]
+/// "The key's target row becomes its row less the other three rows less the masks, modulo 2^b": its element j.
+fn target_element(b: u32, row: u32, others: [u32; 3], mask: u32) -> u32 {
+    let others: i128 = others.iter().map(|&other| i128::from(other)).sum();
+    modulo(b, i128::from(row) - others - i128::from(mask))
+}
+
+/// "The builder takes D as all zero, whatever the lent words held", then writes key after key.
 pub fn build_database(
     b: u32,
     r: usize,
@@ -64,13 +80,13 @@ pub fn build_database(
         return number;
     }
     database[..r * columns].fill(0);
-    for (key, (at, &target)) in groups(positions).zip(targets).enumerate() {
-        let written = at[target as usize];
+    for key in 0..count {
+        let at = positions_of(positions, key).map(|position| position as usize * columns);
+        let target = targets[key] as usize;
         for j in 0..columns {
-            let others = at.iter().filter(|&&p| p != written).map(|&p| database[p as usize * columns + j]);
-            let less = others.fold(masks[key * columns + j], u32::wrapping_add);
-            // 2^b divides 2^32, so that wrapping does not show modulo 2^b.
-            database[written as usize * columns + j] = low(b, rows[key * columns + j].wrapping_sub(less));
+            let others = [1, 2, 3].map(|i| database[at[(target + i) % 4] + j]);
+            let (row, mask) = (rows[key * columns + j], masks[key * columns + j]);
+            database[at[target] + j] = target_element(b, row, others, mask);
         }
     }
     0

@@ -1,21 +1,34 @@
-//! Document 01 as plain functions, to be read beside it and to hold other programs against.
+//! Document 01 ("Rules for what is to be built") as plain functions, to be read beside it. Written from 01 alone, by
+//! somebody who was given 01 and the names and types below, and nothing else of this repository.
 //!
-//! Each entry takes what the C face takes, changes its outputs exactly as 01 says, and returns the same values. Each
-//! has a sister `.._tests` with its refusals, in 01's order. A test is total: where an earlier refusal leaves it
-//! without a meaning (a query entry, when the matrix has the wrong length) it is false, so a driver may ask for all
-//! that hold.
+//! Every entry `E` has a sister `E_tests` with the entry's refusals in 01's order. `E` returns the number of the first
+//! whose condition holds, 0 for success, and changes what it was lent as 01 says.
 //!
-//! Written for clarity. Numbers are taken as integers (u64, u128), and are cut to u32 where 01 says "modulo".
+//! Points that have no sentence of 01, or one that can be read in two ways, and what is taken here:
 //!
-//! 01 leaves some points open. From design.md's table: a refused `fresh` brings a table of zeros; the slab's length is
-//! exact though it is written too; the builder's database is an output and may be longer; masks are any words; fewer
-//! than eight matrix bytes are 11. From docs/DECISIONS.md: the row reader's digest output may be longer than 32 (13);
-//! `calculate_query_indicator` is 0 for b 0 and above 32, and `rounded` has its answers there (24).
+//! 1. `calculate_query_indicator` and `rounded` have no number to give for b outside 4..=14: they answer 0. The library
+//!    decided otherwise there, and is held to `decided`, which isn't 01's.
+//! 2. A refused `fresh` brings a table of zeros (b, C, next, numbers, digests), which is malformed.
+//! 3. The slab is read and written: its length is exactly 64·C ("a lent slab of 64·C words"), else 2.
+//! 4. The row reader's two buffers and the builder's database are outputs: they may be longer.
+//! 5. A reply's masks are a lent length: exactly C, else 2.
+//! 6. Matrix bytes under 8 bytes have no dimensions: 11.
+//! 7. A line writer's word count outside 1..=4096 is 2 (a dimension); in a line that is read it is 11.
+//! 8. A reply lists 17, but its row is made modulo 2^b: the condition never holds. Masks are not row elements.
+//! 9. Open, reply and discard leave the limits of a table's b and C to 18: their 2 compares lengths only.
+//! 10. A condition by itself, where an earlier one holds too: 2^b, 3I and floor(C·b/8)-33 are integers for every b, I
+//!     and C. 17 looks at all elements lent as rows, 13 at the low b bits of each of C elements, 14 at a row's first 32
+//!     bytes whether or not it has a marker, 6 at those of the four positions that are below R, a reader's 2 at the
+//!     dimensions stated in its input. What then can't be computed (for want of b, a length, words, a ticket) is false.
+#![forbid(unsafe_code)]
+// The parameters are those of 01's entries, all lent flat.
+#![allow(clippy::too_many_arguments)]
 
 mod builder;
 mod bytes;
 mod client;
 mod codec;
+pub mod decided;
 mod lines;
 mod packing;
 mod plain;
@@ -23,26 +36,13 @@ mod refusal;
 mod sampler;
 mod table;
 
-pub use builder::{build_database, build_database_tests};
-pub use bytes::{from_bytes, from_bytes_tests, to_bytes, to_bytes_tests, Parsed};
-pub use client::{
-    calculate_query_indicator, discard_query, discard_query_tests, process_response, process_response_tests,
-    query_for_4_wise_xor_filter, query_for_4_wise_xor_filter_tests, rounded, Opened, Replied,
-};
-pub use codec::{
-    decode_kv_from_row, decode_kv_from_row_tests, encode_kv_as_row, encode_kv_as_row_tests, row_of, value_room, Decoded,
-};
-pub use lines::{
-    read_response_line, read_response_line_tests, write_query_line, write_query_line_tests, LineRead, LineWritten,
-};
-pub use packing::{
-    packed_width, row_vector_x_compressed_transposed_matrix, row_vector_x_compressed_transposed_matrix_tests,
-    row_wise_compress, row_wise_compress_tests, row_wise_decompress, row_wise_decompress_tests,
-};
-pub use plain::{plain_product, plain_product_tests, transpose, transpose_tests};
-pub use refusal::Tests;
-pub use sampler::{
-    sample_and_return_unread, sample_from_uniform_ternary_dist, sample_from_uniform_ternary_dist_tests, ternary,
-    Sampled,
-};
-pub use table::{fresh, fresh_tests, is_malformed, Made, Table, SLOTS};
+pub use builder::*;
+pub use bytes::*;
+pub use client::*;
+pub use codec::*;
+pub use lines::*;
+pub use packing::*;
+pub use plain::*;
+pub use refusal::*;
+pub use sampler::*;
+pub use table::*;

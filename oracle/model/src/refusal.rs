@@ -1,63 +1,86 @@
-//! Refusals in order, and the tests that several entries share.
+//! 01, "Refusal numbers" and "Numbers we allow": the lists of conditions, and the conditions that entries share.
 
-/// An entry's tests in the order that 01 gives them, each with its number. A test is run only when it is asked for,
-/// since a later one may cost as much as the call itself.
-pub struct Tests<'a>(Vec<(u32, Box<dyn Fn() -> bool + 'a>)>);
+use std::collections::BTreeSet;
+
+/// One condition, evaluated only when asked.
+pub type Condition<'a> = Box<dyn Fn() -> bool + 'a>;
+
+/// The refusals of one call, in the order that 01 gives for its entry.
+pub struct Tests<'a>(Vec<(u32, Condition<'a>)>);
 
 impl<'a> Tests<'a> {
-    pub(crate) fn in_order() -> Tests<'a> {
+    /// An entry without refusals, to which `then` adds.
+    pub(crate) fn none() -> Self {
         Tests(Vec::new())
     }
 
-    pub(crate) fn then(mut self, number: u32, holds: impl Fn() -> bool + 'a) -> Tests<'a> {
-        self.0.push((number, Box::new(holds)));
+    /// The same list with one more refusal at its end.
+    pub(crate) fn then(mut self, number: u32, condition: impl Fn() -> bool + 'a) -> Self {
+        self.0.push((number, Box::new(condition)));
         self
     }
 
-    /// The number of the first test that holds, 0 where none does.
+    /// The number of the first condition that holds, 0 (success) if none does.
     pub fn first(&self) -> u32 {
-        self.0.iter().find(|(_, holds)| holds()).map_or(0, |(number, _)| *number)
+        self.0.iter().find(|(_, condition)| condition()).map_or(0, |(number, _)| *number)
     }
 
-    /// The numbers of all tests that hold, in order.
+    /// The numbers of all conditions that hold by themselves, in order.
     pub fn holding(&self) -> Vec<u32> {
-        self.0.iter().filter(|(_, holds)| holds()).map(|(number, _)| *number).collect()
+        self.0.iter().filter(|(_, condition)| condition()).map(|(number, _)| *number).collect()
     }
 }
 
-/// 1: b outside 4..=14.
-pub(crate) fn width_bad(b: u32) -> bool {
+/// "R, database rows: 1 to 4,096", and every dimension of plain product, transpose and matrix bytes.
+pub(crate) const ROWS: usize = 4096;
+/// "C, database columns: 1 to 512", and the rows of packing.
+pub(crate) const COLUMNS: usize = 512;
+/// "n, secret length: 1 to 2,048".
+pub(crate) const SECRET: usize = 2048;
+
+/// 1: "b outside 4..=14".
+pub(crate) fn bad_width(b: u32) -> bool {
     !(4..=14).contains(&b)
 }
 
-/// A dimension outside 1..=largest.
-pub(crate) fn outside(dimension: usize, largest: usize) -> bool {
-    !(1..=largest).contains(&dimension)
+/// 2: "a dimension outside its limit", which is 1 to `limit`.
+pub(crate) fn outside(dimension: usize, limit: usize) -> bool {
+    dimension < 1 || dimension > limit
 }
 
-/// A length that is not rows times columns.
-pub(crate) fn length_bad(length: usize, rows: usize, columns: usize) -> bool {
-    length as u128 != times(rows, columns)
+/// 2: "a lent length must equal rows times columns".
+pub(crate) fn differs(length: usize, rows: usize, columns: usize) -> bool {
+    length as u128 != rows as u128 * columns as u128
 }
 
-/// The product as a number: any two usize fit.
-pub(crate) fn times(rows: usize, columns: usize) -> u128 {
-    rows as u128 * columns as u128
+/// 2: "an output too short" for rows times columns words; it "may be longer".
+pub(crate) fn too_short(length: usize, rows: usize, columns: usize) -> bool {
+    (length as u128) < rows as u128 * columns as u128
 }
 
-/// 17's test: an element is 2^b or more. For b 32 and above no word is.
-pub(crate) fn element_bad(b: u32, elements: &[u32]) -> bool {
+/// 2: "C·b below 264".
+pub(crate) fn too_narrow(b: u32, columns: usize) -> bool {
+    columns as u128 * u128::from(b) < 264
+}
+
+/// 4: "I outside its range", which is 1 to 1,431,655,765.
+pub(crate) fn bad_interval(interval: u32) -> bool {
+    !(1..=1_431_655_765).contains(&interval)
+}
+
+/// 5: "a position is R or more, or two of the four are equal".
+pub(crate) fn bad_positions(positions: [u32; 4], r: usize) -> bool {
+    let distinct = BTreeSet::from(positions);
+    distinct.len() < 4 || positions.iter().any(|&position| position as usize >= r)
+}
+
+/// 17: "a row element is 2^b or more".
+pub(crate) fn bad_elements(b: u32, elements: &[u32]) -> bool {
+    // No u32 reaches 2^32.
     b < 32 && elements.iter().any(|&element| u64::from(element) >= 1 << b)
 }
 
-/// 5's test, and a part of 15's: a position is R or more, or two of the four are equal.
-pub(crate) fn positions_bad(r: usize, at: [u32; 4]) -> bool {
-    let far = at.iter().any(|&p| u128::from(p) >= r as u128);
-    let equal = (0..4).any(|i| (i + 1..4).any(|j| at[i] == at[j]));
-    far || equal
-}
-
-/// A word modulo 2^b, for b up to 32.
-pub(crate) fn low(b: u32, word: u32) -> u32 {
-    (u64::from(word) % (1u64 << b)) as u32
+/// The number modulo 2^bits, `bits` at most 32.
+pub(crate) fn modulo(bits: u32, number: i128) -> u32 {
+    number.rem_euclid(1 << bits) as u32
 }

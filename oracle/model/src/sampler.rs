@@ -1,17 +1,15 @@
 //! 01, "Ternary sampler".
 
-use crate::refusal::Tests;
+use crate::refusal::{bad_interval, Tests};
 
-/// The largest I: 3I still fits in u32.
-const LARGEST: u32 = 1_431_655_765;
-
+/// What the sampler answers: the refusal number and the count of words read.
 #[derive(Clone, Debug, PartialEq, Eq)]
 pub struct Sampled {
     pub number: u32,
     pub read: usize,
 }
 
-/// What one random word gives; nothing where it is skipped.
+/// "A word up to I gives 0; I+1 to 2I gives 1; 2I+1 to 3I gives 2^32-1; more is skipped."
 pub fn ternary(interval: u32, word: u32) -> Option<u32> {
     let (i, word) = (u64::from(interval), u64::from(word));
     if word <= i {
@@ -25,46 +23,39 @@ pub fn ternary(interval: u32, word: u32) -> Option<u32> {
     }
 }
 
-/// The length of the shortest start of the words that holds `wanted` accepted ones; nothing where they end before.
-pub(crate) fn shortest_start(interval: u32, words: &[u32], wanted: u128) -> Option<usize> {
-    let mut accepted = 0;
-    for read in 0..=words.len() {
-        if accepted == wanted {
-            return Some(read);
-        }
-        if read < words.len() && ternary(interval, words[read]).is_some() {
-            accepted += 1;
-        }
+/// The first `wanted` values and "the length of the shortest start of the words holding enough accepted ones"; nothing
+/// if "the random words end before enough are accepted".
+pub(crate) fn sampled(interval: u32, words: &[u32], wanted: usize) -> Option<(Vec<u32>, usize)> {
+    let mut values = Vec::new();
+    let mut read = 0;
+    while values.len() < wanted {
+        values.extend(ternary(interval, *words.get(read)?));
+        read += 1;
     }
-    None
+    Some((values, read))
 }
 
-/// 4's test.
-pub(crate) fn interval_bad(interval: u32) -> bool {
-    !(1..=LARGEST).contains(&interval)
-}
-
+/// "Sampler: 2, 4, 3." "A sampler's wanted length is its output's length, 0 to 4,096."
 pub fn sample_from_uniform_ternary_dist_tests<'a>(interval: u32, words: &'a [u32], out: &'a [u32]) -> Tests<'a> {
-    Tests::in_order()
+    Tests::none()
         .then(2, move || out.len() > 4096)
-        .then(4, move || interval_bad(interval))
-        .then(3, move || shortest_start(interval, words, out.len() as u128).is_none())
+        .then(4, move || bad_interval(interval))
+        .then(3, move || sampled(interval, words, out.len()).is_none())
 }
 
+/// "It fills the lent output from the lent words and answers the number read".
 pub fn sample_from_uniform_ternary_dist(interval: u32, words: &[u32], out: &mut [u32]) -> Sampled {
     let number = sample_from_uniform_ternary_dist_tests(interval, words, out).first();
     if number != 0 {
         return Sampled { number, read: 0 };
     }
-    let accepted = words.iter().filter_map(|&word| ternary(interval, word));
-    for (place, value) in out.iter_mut().zip(accepted) {
-        *place = value;
-    }
-    let read = shortest_start(interval, words, out.len() as u128).expect("3 was tested");
-    Sampled { number: 0, read }
+    let (values, read) = sampled(interval, words, out.len()).expect("3 does not hold");
+    out.copy_from_slice(&values);
+    Sampled { number, read }
 }
 
-/// The same work; the unread tail of the words comes back. A refusal reads none, so the tail is then the whole of them.
+/// "A sister call does the same work and returns the unread tail"; "on a refusal the tail is the whole of the words".
 pub fn sample_and_return_unread<'w>(interval: u32, words: &'w [u32], out: &mut [u32]) -> &'w [u32] {
-    &words[sample_from_uniform_ternary_dist(interval, words, out).read..]
+    let done = sample_from_uniform_ternary_dist(interval, words, out);
+    &words[done.read..]
 }

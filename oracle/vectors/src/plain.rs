@@ -31,7 +31,7 @@ pub fn transpose(list: &mut List, [r, c]: [usize; 2], words: &[u32], out: &[u32]
 }
 
 pub fn indicator(list: &mut List, b: u32) {
-    let said = model::calculate_query_indicator(b);
+    let said = model::decided::calculate_query_indicator(b);
     let call = Call::new(13, "indicator").plain("b", b);
     if !(4..=14).contains(&b) {
         return list.add(call, Answer::new(said), By::Model);
@@ -42,7 +42,7 @@ pub fn indicator(list: &mut List, b: u32) {
 
 fn rounded(list: &mut List, b: u32, u: u32) {
     let call = Call::new(14, "rounded").plain("b", b).plain("u", u);
-    list.add(call, Answer::new(model::rounded(b, u)), By::Model);
+    list.add(call, Answer::new(model::decided::rounded(b, u)), By::Model);
 }
 
 /// At a multiple of Δ, at Δ/2 beyond it and one more, and at the end of all words.
