@@ -1,6 +1,6 @@
 #!/bin/sh
-# run.sh: the C program and the Rust tests over the proved archive; the last line says what ran. Made for x86-64 and
-# for aarch64, and so far run on x86-64 alone.
+# run.sh: the C program and the Rust tests over the proved archive; the last line says what ran. For x86-64 and aarch64;
+# on-aarch64.sh runs it as on the second from a machine of the first kind.
 # The archive is made by `rt staticlib abi`, unless LADLETWIG_ARCHIVE_DIR names a folder with an x86-64 libabi.a.
 set -eu
 here=$(cd "$(dirname "$0")" && pwd)
@@ -11,7 +11,7 @@ kit=${RATTLE_HOME:-$(dirname "$(dirname "$guide")")}
 work=$(mktemp -d)
 trap 'rm -rf "$work"' EXIT
 
-# On aarch64 one proof gives both archives: the x86-64 one, and native/ for cargo.
+# On aarch64 one proof gives both archives: the x86-64 one, and native/ for the machine's own cc and cargo.
 make_archive() {
     if [ "$machine" = x86_64 ]; then
         (cd "$root" && rt staticlib abi)
@@ -40,7 +40,7 @@ c_with_kit() {
 # The machine's own compiler and headers must come to the same lines.
 c_with_cc() {
     cc -std=c99 -O2 -Wall -Wextra -Werror -pedantic -I "$root/include" \
-        "$here/c/lookup.c" "$archives/libabi.a" -o "$work/lookup-cc"
+        "$here/c/lookup.c" "$linked/libabi.a" -o "$work/lookup-cc"
     "$work/lookup-cc" | cmp - "$work/printed"
     echo "bindings: the machine's cc gives the same lines"
 }
@@ -62,7 +62,7 @@ else
 fi
 
 c_with_kit
-if [ "$machine" = x86_64 ] && command -v cc > /dev/null; then c_with_cc; fi
+if [ -n "$linked" ] && command -v cc > /dev/null; then c_with_cc; fi
 if ! "$here/rust-at-hand.sh"; then
     echo "bindings: C program passed; Rust tests LEFT OUT: no Rust compiler (cargo, rustc 1.82 or later, cc) is at hand"
 elif [ -z "$linked" ]; then
