@@ -8,7 +8,8 @@ root=$1 name=$2
 mkdir -p "$3"
 out=$(cd "$3" && pwd)
 machine=$(uname -m)
-kit=${RATTLE_HOME:-$(dirname "$(dirname "$(rt doc)")")}
+if [ -z "${RATTLE_HOME:-}" ]; then guide=$(rt doc); fi # by itself, so that a failure of rt ends the run
+kit=${RATTLE_HOME:-$(dirname "$(dirname "$guide")")}
 tools=$kit/on/$machine/toolchain/bin
 
 # Links to everything in folder $1, except the entry $3, in folder $2.

@@ -1,11 +1,14 @@
 #!/bin/sh
 # on-aarch64.sh DIR [WORDS]: bindings/run.sh, and then oracle/run.sh WORDS, as on an aarch64 machine; for an x86-64 Debian,
-# as root, by hand. DIR becomes an aarch64 Debian with a Rust compiler (about 1.5 GB), and DIR/work/main a clone of this
-# checkout; what is there already is used again. Every program in it runs under qemu's emulator of that processor, the kit's
-# prover, its compiler and its emulator among them. `uname -m` says aarch64 there, so the two scripts do what they do on
-# such a machine, in about ten times the time.
+# as root, by hand. DIR, which is new or empty, becomes an aarch64 Debian with a Rust compiler (about 1 GB), and DIR/work/main
+# a clone of this checkout as it is committed; a DIR of an earlier run is used again. Every program in it runs under qemu's
+# emulator of that processor, the kit's prover, its compiler and its own emulator among them: `uname -m` says aarch64, so the
+# two scripts do what they do on such a machine, in about ten times the time. On this machine debootstrap and
+# qemu-user-static are installed, and the emulator is made known to the kernel; both stay.
 set -eu
-[ $# -gt 0 ] || { echo "on-aarch64: which folder?" >&2; exit 2; }
+say() { echo "on-aarch64: $*" >&2; exit 2; }
+[ $# -gt 0 ] || say "which folder?"
+[ "$(id -u)" = 0 ] || say "it makes a root to change to, so it needs root"
 mkdir -p "$1"
 dir=$(cd "$1" && pwd)
 shift
@@ -15,6 +18,7 @@ kit=$(dirname "$(dirname "$guide")")
 rust=${LADLETWIG_RUST_SOURCE:-$(dirname "$checkout")/shared/docs/src}
 suite=trixie # the first Debian with a Rust of 1.82 or later
 formats=/proc/sys/fs/binfmt_misc
+ready=$dir/made-by-on-aarch64
 
 # The kernel hands each aarch64 program to the emulator, wherever its root is.
 emulate() {
@@ -26,8 +30,11 @@ emulate() {
 
 # From where this machine has its own Debian.
 make_system() {
-    mirror=$(apt-get indextargets --format '$(REPO_URI)' 'Created-By: Packages' | grep -m 1 '/debian/$')
+    [ -z "$(ls -A "$dir")" ] || say "$dir is neither empty nor an earlier run's"
+    mirror=$(apt-get indextargets --format '$(REPO_URI)' 'Created-By: Packages' | grep -m 1 '/debian/$') ||
+        say "apt has no source of Debian"
     debootstrap --variant=minbase --arch=arm64 --include=rustc,cargo,gcc,libc6-dev "$suite" "$dir" "$mirror"
+    touch "$ready"
 }
 
 make_house() {
@@ -42,17 +49,18 @@ make_house() {
     [ ! -d "$rust" ] || cp -rL "$rust" "$dir/work/shared/docs/src"
 }
 
-part() { umount "$dir/dev" "$dir/proc" "$dir/$kit"; }
-
 emulate
-[ -x "$dir/usr/bin/cargo" ] || make_system
+[ -e "$ready" ] || make_system
 make_house
-mount --bind "$kit" "$dir/$kit"
-mount -t proc proc "$dir/proc"
-mount --bind /dev "$dir/dev"
-trap part EXIT
-chroot "$dir" /usr/bin/env -i HOME=/root "PATH=$kit/bin:/usr/bin:/bin" sh -euc '
-    cd /work/main
-    echo "on $(uname -m), with $(rustc --version)"
-    bindings/run.sh
-    oracle/run.sh "$@"' sh "$@"
+export dir kit
+# The mounts are seen by these processes alone, and end with them.
+unshare --mount sh -euc '
+    mount --bind "$kit" "$dir/$kit"
+    mount -o remount,bind,ro "$dir/$kit"
+    mount -t proc proc "$dir/proc"
+    mount --bind /dev "$dir/dev"
+    exec chroot "$dir" /usr/bin/env -i HOME=/root "PATH=$kit/bin:/usr/bin:/bin" sh -euc "
+        cd /work/main
+        echo \"on \$(uname -m), with \$(rustc --version)\"
+        bindings/run.sh
+        oracle/run.sh \"\$@\"" sh "$@"' sh "$@"

@@ -1,7 +1,8 @@
 #!/bin/sh
-# run.sh: the C program and the Rust tests over the proved archive; the last line says what ran. For x86-64 and aarch64;
-# on-aarch64.sh runs it as on the second from a machine of the first kind.
-# The archive is made by `rt staticlib abi`, unless LADLETWIG_ARCHIVE_DIR names a folder with an x86-64 libabi.a.
+# run.sh: the C program and the Rust tests over the proved archive; the last line says what ran. For x86-64 and aarch64:
+# on-aarch64.sh runs it on an emulated aarch64, from x86-64.
+# The archive is made by `rt staticlib abi`, unless LADLETWIG_ARCHIVE_DIR names a folder with an x86-64 libabi.a; on aarch64
+# native-archive.sh makes a second one of the same proof.
 set -eu
 here=$(cd "$(dirname "$0")" && pwd)
 root=$(dirname "$here")
@@ -41,7 +42,8 @@ c_with_kit() {
 c_with_cc() {
     cc -std=c99 -O2 -Wall -Wextra -Werror -pedantic -I "$root/include" \
         "$here/c/lookup.c" "$linked/libabi.a" -o "$work/lookup-cc"
-    "$work/lookup-cc" | cmp - "$work/printed"
+    "$work/lookup-cc" > "$work/printed-cc"
+    cmp "$work/printed-cc" "$work/printed"
     echo "bindings: the machine's cc gives the same lines"
 }
 

@@ -4,58 +4,52 @@
 # a gap in the list is not enough. Needs what run.sh needs. Exit 1 if one isn't told.
 set -eu
 here=$(cd "$(dirname "$0")" && pwd)
-root=$(dirname "$here")
-usual=$root/target/staticlib
-[ "$(uname -m)" = x86_64 ] || usual=$root/target/native
-source=${LADLETWIG_RUST_SOURCE:-$(dirname "$root")/shared/docs/src}
-archive=${LADLETWIG_ARCHIVE_DIR:-$usual}
-if ! "$root/bindings/rust-at-hand.sh" || [ ! -r "$source/chalametpir_common/src/matrix.rs" ]; then
-    echo "planted: LEFT OUT, the Rust compiler or the Rust's files are not at hand; run.sh says which"
-    exit 0
-fi
-LADLETWIG_RUST_SOURCE=$(cd "$source" && pwd)
-LADLETWIG_ARCHIVE_DIR=$(cd "$archive" && pwd)
+root=$(dirname "$here") name=planted
+. "$here/at-hand.sh"
 CARGO_TARGET_DIR=$root/target/planted
 # In many units, each built again only if it changed: as run.sh builds, every edit would cost ten seconds.
 CARGO_INCREMENTAL=1 CARGO_PROFILE_RELEASE_CODEGEN_UNITS=64
-export LADLETWIG_RUST_SOURCE LADLETWIG_ARCHIVE_DIR CARGO_TARGET_DIR
-export CARGO_INCREMENTAL CARGO_PROFILE_RELEASE_CODEGEN_UNITS
+export CARGO_TARGET_DIR CARGO_INCREMENTAL CARGO_PROFILE_RELEASE_CODEGEN_UNITS
 # The same folder every time, and the files' times kept: in another one cargo would build everything again.
 copy=$CARGO_TARGET_DIR/copy log=$CARGO_TARGET_DIR/copy/log
 trap 'rm -rf "$copy"' EXIT
-rm -rf "$copy" && mkdir -p "$copy/bindings"
-cp -Rp "$here" "$copy" && cp -Rp "$root/bindings/rust" "$copy/bindings"
+rm -rf "$copy" && mkdir -p "$copy"
+(cd "$root" && tar -cf - --exclude=target oracle bindings/rust) | (cd "$copy" && tar -xpf -)
 # The model that was built last may have an error in it, and be younger than the files.
 touch "$copy"/oracle/model/src/*.rs
 cd "$copy/oracle"
-# The end of what `compare` says, "N different", or why there is no such end.
+
 compared() {
-    cargo build --quiet --offline --locked --release -p compare > "$log" 2>&1 || { echo "does not build"; return; }
-    "$CARGO_TARGET_DIR/release/compare" --calls 200 "$@" > "$log" 2>&1 && status=0 || status=$?
-    number=$(sed -n '$s/^compare: .* calls, \(.* different\)$/\1/p' "$log")
-    if [ $status = 101 ]; then echo panicked; else echo "${number:-ended with $status}"; fi
+    cargo build --quiet --offline --locked --release -p compare > "$log" 2>&1 || return 100
+    "$CARGO_TARGET_DIR/release/compare" --calls 200 "$@" > "$log" 2>&1
 }
+# Open, reply and discard are run together, whichever is named: the number is that of the entry's own part.
+own='$1 == entry || $1 == entry "," { mine = 1 }  mine && / different [0-9]+$/ { print $NF; exit }'
 # An old line must be there exactly once, so that no edit outlives what it changes.
 edited='
-    NR == FNR { if (sub(/^old: /, "")) old[++pairs] = $0; else if (sub(/^new: /, "")) new[pairs] = $0; next }
+    NR == FNR { if (sub(/^old: /, "")) old[++pairs] = $0; else if (sub(/^new: /, "")) new[++news] = $0; next }
     { line = $0; for (i = 1; i <= pairs; i++) if ($0 == old[i]) { hits[i]++; line = new[i] }; print line }
     END { for (i = 1; i <= pairs; i++) if (hits[i] != 1) { bad = 1; print hits[i] + 0 " times: " old[i] | "cat >&2" }
-          exit bad || !pairs }'
-sound=$(compared)
-[ "$sound" = "0 different" ] || { cat "$log"; echo "planted: $sound without an error"; exit 1; }
+          exit bad || !pairs || pairs != news }'
+
+compared || { tail -n 20 "$log"; echo "planted: without an error it isn't sound"; exit 1; }
 [ $# -gt 0 ] || set -- "$here"/planted/*.edit
 told=0 not=0
 for edit in "$@"; do
     name=$(basename "$edit" .edit) edit=$here/planted/$(basename "$edit" .edit).edit
+    [ -r "$edit" ] || { echo "planted: there is no $name"; exit 2; }
     file=$(sed -n 's/^file: //p' "$edit") entry=$(sed -n 's/^entry: //p' "$edit")
     awk "$edited" "$edit" "$here/$file" > "$file" || { echo "planted $name: does not fit $file"; exit 1; }
-    said=$(compared --entry "$entry")
-    case $said in
-        "0 different") said="NOT TOLD" not=$((not + 1)) ;;
-        *" different") said="told, $said" told=$((told + 1)) ;;
-        *) not=$((not + 1)) ;;
-    esac
-    echo "planted $name: $said"
+    compared --entry "$entry" && status=0 || status=$?
+    different=$(awk -v entry="$entry" "$own" "$log")
+    if [ $status = 1 ] && [ "${different:-0}" -gt 0 ]; then
+        echo "planted $name: told, $different different"
+        told=$((told + 1))
+    else
+        tail -n 20 "$log"
+        echo "planted $name: NOT TOLD (exit $status; 100: does not build, 101: a panic)"
+        not=$((not + 1))
+    fi
     cp "$here/$file" "$file"
 done
 echo "planted: $told told, $not not"

@@ -45,7 +45,7 @@ pub(crate) fn marker(bytes: &[u8]) -> Option<usize> {
     (bytes[last] == MARKER && last >= 32).then_some(last)
 }
 
-/// 2 in row writer, row reader and fresh table: C outside its limit or C·b below 264.
+/// 2 in row writer, row reader and fresh table, and a part of 18: C outside its limit or C·b below 264.
 pub(crate) fn bad_columns(b: u32, columns: usize) -> bool {
     outside(columns, COLUMNS) || too_narrow(b, columns)
 }

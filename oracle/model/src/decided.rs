@@ -10,7 +10,7 @@ pub fn calculate_query_indicator(b: u32) -> u32 {
     }
 }
 
-/// 01's rounding by that Δ. For b 0 everything is 0 modulo 1; from 32 on Δ is 1, and a word its own multiple.
+/// 01's rounding by that Δ. For b 0 everything is 0 modulo 1; from 32 on Δ counts as 1, and a word is its own multiple.
 pub fn rounded(b: u32, u: u32) -> u32 {
     let delta = calculate_query_indicator(b);
     match b {

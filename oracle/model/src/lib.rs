@@ -1,8 +1,9 @@
 //! Document 01 ("Rules for what is to be built") as plain functions, to be read beside it. Written from 01 alone, by
-//! somebody who was given 01 and the names and types below, and nothing else of this repository.
+//! somebody who was given 01 and the names and types below, and nothing else of this repository; but for `decided`, and the
+//! sentences here that name it.
 //!
-//! Every entry `E` has a sister `E_tests` with the entry's refusals in 01's order. `E` returns the number of the first
-//! whose condition holds, 0 for success, and changes what it was lent as 01 says.
+//! Every entry `E` for which 01 gives an order of refusals has `E_tests` beside it, with their conditions in that order.
+//! `E` answers the number of the first that holds, 0 for success, and changes what it was lent as 01 says.
 //!
 //! Points that have no sentence of 01, or one that can be read in two ways, and what is taken here:
 //!
@@ -15,7 +16,7 @@
 //! 6. Matrix bytes under 8 bytes have no dimensions: 11.
 //! 7. A line writer's word count outside 1..=4096 is 2 (a dimension); in a line that is read it is 11.
 //! 8. A reply lists 17, but its row is made modulo 2^b: the condition never holds. Masks are not row elements.
-//! 9. Open, reply and discard leave the limits of a table's b and C to 18: their 2 compares lengths only.
+//! 9. Open, reply and discard leave the limits of a table's b, C and C·b to 18: their 2 has none of these.
 //! 10. A condition by itself, where an earlier one holds too: 2^b, 3I and floor(C·b/8)-33 are integers for every b, I
 //!     and C. 17 looks at all elements lent as rows, 13 at the low b bits of each of C elements, 14 at a row's first 32
 //!     bytes whether or not it has a marker, 6 at those of the four positions that are below R, a reader's 2 at the

@@ -31,7 +31,8 @@ impl<'a> Tests<'a> {
     }
 }
 
-/// "R, database rows: 1 to 4,096", and every dimension of plain product, transpose and matrix bytes.
+/// "R, database rows: 1 to 4,096"; also a packed row's elements, a line's columns, and every dimension of plain product,
+/// transpose and matrix bytes.
 pub(crate) const ROWS: usize = 4096;
 /// "C, database columns: 1 to 512", and the rows of packing.
 pub(crate) const COLUMNS: usize = 512;
