@@ -3,8 +3,9 @@
 # as root, by hand. DIR, which is new or empty, becomes an aarch64 Debian with a Rust compiler (about 1 GB), and DIR/work/main
 # a clone of this checkout as it is committed; a DIR of an earlier run is used again. Every program in it runs under qemu's
 # emulator of that processor, the kit's prover, its compiler and its own emulator among them: `uname -m` says aarch64, so the
-# two scripts do what they do on such a machine, in about ten times the time. On this machine debootstrap and
-# qemu-user-static are installed, and the emulator is made known to the kernel; both stay.
+# two scripts do what they do on such a machine, a proof in about ten times the time and a build in more: one to two hours
+# in all. On this machine debootstrap and qemu-user-static are installed, and the emulator is made known to the kernel; both
+# stay.
 set -eu
 say() { echo "on-aarch64: $*" >&2; exit 2; }
 [ $# -gt 0 ] || say "which folder?"
