@@ -1,25 +1,31 @@
--- Two results that a contract allows for one input coincide, the answer and each output alike.
-use mathlib.Core.Path.{_≡_, refl}
-use mathlib.Core.List.{List}
-use mathlib.Core.Bool.{Bool, cond}
+-- Two results that a function's own contract allows for one input coincide, the answer and each lent buffer alike.
+use mathlib.Core.Path.{_≡_, refl, _∙⁻¹_}
+use mathlib.Core.Bool.{cond}
 use Prim.Native.Nat.{ℕ}
 use lib.Dec.{eqb}
-use lib.ListN.{length}
-use Rattle.laws.specs.Refusals.{OneResult, OneOutcome}
-use Rattle.laws.proofs.Refusals.{one-result, one-outcome, one-answer}
+use denote.Ref.{now}
+use Rattle.laws.specs.Contracts.{AllowsOne, TellsOne}
+use Rattle.laws.proofs.Contracts.{told-apart, _&_, skip}
 use Rattle.arith.specs.declared.packing.Packed.{Packed}
 use Rattle.arith.specs.declared.packing.Packed.the-variants as packed
+use Rattle.arith.specs.declared.sampler.Sampled.{Sampled}
+use Rattle.arith.specs.declared.sampler.Sampled.the-variants as sampled
 use Rattle.arith.specs.declared.codec.Encoded.{Encoded}
 use Rattle.arith.specs.declared.codec.Encoded.the-variants as encoded
 use Rattle.arith.specs.declared.codec.Decoded.{Decoded}
 use Rattle.arith.specs.declared.codec.Decoded.the-variants as decoded
-use Rattle.arith.specs.declared.sampler.Sampled.{Sampled}
-use Rattle.arith.specs.declared.sampler.Sampled.the-variants as sampled
-use Rattle.arith.specs.Packing.{packedNumber, compressNumber, compressAfter, decompressNumber, decompressAfter}
-use Rattle.arith.specs.Product.{productNumber, productAfter}
-use Rattle.arith.specs.Codec.{columnsBad, encodedNumber, encodeNumber, encodeAfter}
-use Rattle.arith.specs.Codec.{decodedNumber, decodedLength, decodeNumber, decodeLength, digestAfter, valueAfter}
-use Rattle.arith.specs.Sampler.{sampledNumber, sampledRead, sampleNumber, sampleRead, sampleAfter, sampleTail}
+use Rattle.arith.specs.Packing.{packedNumber}
+use Rattle.arith.specs.Sampler.{sampledNumber, sampledRead}
+use Rattle.arith.specs.Codec.{encodedNumber, decodedNumber, decodedLength}
+use Rattle.arith.proofs.packing.row_wise_compress as compress
+use Rattle.arith.proofs.packing.row_wise_decompress as decompress
+use Rattle.arith.proofs.product.row_vector_x_compressed_transposed_matrix as product
+use Rattle.arith.proofs.sampler.words_to_read
+use Rattle.arith.proofs.sampler.sample_from_uniform_ternary_dist as sample
+use Rattle.arith.proofs.sampler.sample_and_return_unread as sister
+use Rattle.arith.proofs.codec.columns_bad
+use Rattle.arith.proofs.codec.encode_kv_as_row as encode
+use Rattle.arith.proofs.codec.decode_kv_from_row as decode
 
 abbrev packedOf : ℕ → Packed
 packedOf n = cond (eqb n 0) packed.Done (cond (eqb n 1) packed.Width packed.Shape)
@@ -29,17 +35,21 @@ packed-back packed.Done = refl
 packed-back packed.Width = refl
 packed-back packed.Shape = refl
 
-pub row-wise-compress-settled : (b rows k : ℕ) (words out : List ℕ)
-    → OneResult packedNumber (compressNumber b rows k (length words) (length out)) (compressAfter b rows k words out)
-row-wise-compress-settled b rows k words out = one-result packedNumber packedOf packed-back _ _
+-- the view's functions answer so too
+pub packed-one : {x y : Packed} → packedNumber x ≡ packedNumber y → x ≡ y
+packed-one = told-apart packedNumber packedOf packed-back
 
-pub row-wise-decompress-settled : (b rows k : ℕ) (words out : List ℕ)
-    → OneResult packedNumber (decompressNumber b rows k (length words) (length out)) (decompressAfter b rows k words out)
-row-wise-decompress-settled b rows k words out = one-result packedNumber packedOf packed-back _ _
+pub row-wise-compress-settled : AllowsOne compress.Kinds.ps compress.Kinds.r compress.Reads.Post
+row-wise-compress-settled κs a x y v w p q =
+    (packed-one (p .0 ∙⁻¹ q .0), skip 4 (p .1 ∙⁻¹ q .1 & refl))
 
-pub row-vector-x-compressed-transposed-matrix-settled : (b rows k : ℕ) (vector words out : List ℕ)
-    → OneResult packedNumber (productNumber b rows k (length vector) (length words) (length out)) (productAfter b rows k vector words out)
-row-vector-x-compressed-transposed-matrix-settled b rows k vector words out = one-result packedNumber packedOf packed-back _ _
+pub row-wise-decompress-settled : AllowsOne decompress.Kinds.ps decompress.Kinds.r decompress.Reads.Post
+row-wise-decompress-settled κs a x y v w p q =
+    (packed-one (p .0 ∙⁻¹ q .0), skip 4 (p .1 ∙⁻¹ q .1 & refl))
+
+pub row-vector-x-compressed-transposed-matrix-settled : AllowsOne product.Kinds.ps product.Kinds.r product.Reads.Post
+row-vector-x-compressed-transposed-matrix-settled κs a x y v w p q =
+    (packed-one (p .0 ∙⁻¹ q .0), skip 5 (p .1 ∙⁻¹ q .1 & refl))
 
 -- the number, and the count of words read
 abbrev sampledSaid : Sampled → ℕ × ℕ
@@ -54,21 +64,22 @@ sampled-back sampled.Shape = refl
 sampled-back sampled.Interval = refl
 sampled-back sampled.Short = refl
 
-pub words-to-read-settled : (interval n : ℕ) (words : List ℕ)
-    → OneOutcome sampledSaid (sampleNumber interval n words, sampleRead interval n words)
-words-to-read-settled interval n words = one-outcome sampledSaid sampledOf sampled-back _
+sampled-one : {x y : Sampled} → sampledSaid x ≡ sampledSaid y → x ≡ y
+sampled-one = told-apart sampledSaid sampledOf sampled-back
 
-pub sample-from-uniform-ternary-dist-settled : (interval : ℕ) (words out : List ℕ)
-    → OneResult sampledSaid (sampleNumber interval (length out) words, sampleRead interval (length out) words) (sampleAfter interval words out)
-sample-from-uniform-ternary-dist-settled interval words out = one-result sampledSaid sampledOf sampled-back _ _
+pub words-to-read-settled : AllowsOne words_to_read.Kinds.ps words_to_read.Kinds.r words_to_read.Reads.Post
+words-to-read-settled κs a x y v w p q = (sampled-one (p .0 ∙⁻¹ q .0 & p .1 ∙⁻¹ q .1), refl)
 
--- the sister's answer is the tail itself
-pub sample-and-return-unread-settled : (interval : ℕ) (words out : List ℕ)
-    → OneResult (λ (t : List ℕ). t) (sampleTail interval (length out) words) (sampleAfter interval words out)
-sample-and-return-unread-settled interval words out = one-result (λ t. t) (λ t. t) (λ t. refl) _ _
+pub sample-from-uniform-ternary-dist-settled : AllowsOne sample.Kinds.ps sample.Kinds.r sample.Reads.Post
+sample-from-uniform-ternary-dist-settled κs a x y v w p q =
+    (sampled-one (p .0 ∙⁻¹ q .0 & p .1 .0 ∙⁻¹ q .1 .0), skip 2 (p .1 .1 ∙⁻¹ q .1 .1 & refl))
 
-pub columns-bad-settled : (b columns : ℕ) → OneOutcome (λ (r : Bool). r) (columnsBad b columns)
-columns-bad-settled b columns = one-answer _
+-- The sister answers a part of the words, by reference: what it holds is told, and so how long it is.
+pub sample-and-return-unread-settled : TellsOne sister.Kinds.ps sister.Kinds.r sister.Reads.Post (λ κs tail. now tail)
+sample-and-return-unread-settled κs a x y v w p q = (p .0 ∙⁻¹ q .0, skip 2 (p .1 ∙⁻¹ q .1 & refl))
+
+pub columns-bad-settled : AllowsOne columns_bad.Kinds.ps columns_bad.Kinds.r columns_bad.Reads.Post
+columns-bad-settled κs a x y v w p q = (p ∙⁻¹ q, refl)
 
 abbrev encodedOf : ℕ → Encoded
 encodedOf n = cond (eqb n 0) encoded.Done (cond (eqb n 1) encoded.Width (cond (eqb n 2) encoded.Shape encoded.TooLong))
@@ -79,9 +90,9 @@ encoded-back encoded.Width = refl
 encoded-back encoded.Shape = refl
 encoded-back encoded.TooLong = refl
 
-pub encode-kv-as-row-settled : (b columns : ℕ) (digest value out : List ℕ)
-    → OneResult encodedNumber (encodeNumber b columns (length value) (length out)) (encodeAfter b columns digest value out)
-encode-kv-as-row-settled b columns digest value out = one-result encodedNumber encodedOf encoded-back _ _
+pub encode-kv-as-row-settled : AllowsOne encode.Kinds.ps encode.Kinds.r encode.Reads.Post
+encode-kv-as-row-settled κs a x y v w p q =
+    (told-apart encodedNumber encodedOf encoded-back (p .0 ∙⁻¹ q .0), skip 4 (p .1 ∙⁻¹ q .1 & refl))
 
 -- the number, and the value's length
 abbrev decodedSaid : Decoded → ℕ × ℕ
@@ -97,9 +108,8 @@ decoded-back decoded.Shape = refl
 decoded-back decoded.Element = refl
 decoded-back decoded.Marker = refl
 
--- its two outputs are told together
-pub decode-kv-from-row-settled : (b columns : ℕ) (row digest value : List ℕ)
-    → OneResult {C = List ℕ × List ℕ} decodedSaid
-    (decodeNumber b columns row (length digest) (length value), decodeLength b columns row (length digest) (length value))
-    (digestAfter b columns row digest value, valueAfter b columns row digest value)
-decode-kv-from-row-settled b columns row digest value = one-result decodedSaid decodedOf decoded-back _ _
+pub decode-kv-from-row-settled : AllowsOne decode.Kinds.ps decode.Kinds.r decode.Reads.Post
+decode-kv-from-row-settled κs a x y v w p q = (
+  told-apart decodedSaid decodedOf decoded-back (p .0 ∙⁻¹ q .0 & p .1 .0 ∙⁻¹ q .1 .0),
+  skip 3 (p .1 .1 .0 ∙⁻¹ q .1 .1 .0 & p .1 .1 .1 ∙⁻¹ q .1 .1 .1 & refl),
+)

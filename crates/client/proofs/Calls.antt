@@ -2,29 +2,28 @@
 -- pending, that next rises by one at an open that succeeds and never else, and that the other slots keep all they have.
 use mathlib.Core.Path.{_≡_, refl, sym}
 use mathlib.Core.Bool.{Bool, true, false, not, cond, _&&_, _||_, or-false, and-true}
-use mathlib.Core.List.{List, [], _∷_, _++_}
+use mathlib.Core.List.{List}
 use Prim.Native.Nat.{ℕ, zero, suc, _+_, _*_, _<_}
 use native.Mathlib.Nat.{add-zero}
 use native.Mathlib.Omega.{arith}
 use lib.ListN.{length, replicate, length-replicate}
 use lib.Dec.{eqb}
 use borrow.Author.Tests.{ne-eqb, eqb-true}
-use Rattle.laws.specs.Refusals.{_⇒_, first, after}
+use Rattle.laws.specs.Refusals.{after}
 use Rattle.laws.specs.Lists.{row, splice}
-use Rattle.laws.proofs.Refusals.{Clear, all-clear, clear-front}
 use Rattle.laws.proofs.Lists.{room}
 use Rattle.laws.proofs.Splice.{row-kept}
 use Rattle.plain.proofs.matrix.Cells.{length-product}
 use Rattle.client.specs.declared.table.Table.{Table}
-use Rattle.client.specs.Table.{Sized, malformed, digestPending, full, pending, slotOf, closed, wiped, freshNumber, freshAfter}
-use Rattle.client.specs.Open.{Asked, openTests, wraps, noisyOf, secretOf, storedSecret, openNumber, openOf, openLeft}
+use Rattle.client.specs.Table.{Sized, malformed, pending, slotOf, closed, wiped, freshNumber, freshAfter}
+use Rattle.client.specs.Open.{Asked, secretOf, storedSecret, openNumber, openOf, openLeft}
 use Rattle.client.specs.Reply.{Received, slotFor, replyNumber, closing, replyOf, replySlab}
 use Rattle.client.specs.Discard.{discardNumber, discardTable, discardSlab}
 use Rattle.client.proofs.table.Lengths.{fresh-sized, taken-sized, closed-sized}
-use Rattle.client.proofs.table.Slots.{Kept, slot-free, slot-pending, taken-others, closed-others}
+use Rattle.client.proofs.table.Slots.{Kept, slot-pending, taken-others, closed-others}
 use Rattle.client.proofs.table.Formed.{taken-formed, closed-formed}
 use Rattle.client.proofs.table.Pending.{fresh-pending, taken-pending, closed-pending}
-use Rattle.client.proofs.open.Sizes.{shaped}
+use Rattle.client.proofs.open.Answers.{Ready, succeeded}
 use Rattle.client.proofs.reply.Answers.{none-early, waiting, lent}
 use Rattle.client.proofs.discard.Answers.{accepted}
 
@@ -54,40 +53,25 @@ module _ (b columns : ℕ) where
 
 -- An open. The types of the code give the two sizes.
 module _ (a : Asked) (size : Sized (a .table)) (whole : length (a .digest) ≡ 32) where
-  -- where it succeeds, none of its tests holds
-  clear : eqb (openNumber a) 0 ≡ true → Clear (openTests a)
-  unfolding openNumber
-  clear e =
-      let six = wraps (a .table .b) (a .positions) (noisyOf a) ⇒ 6 ∷ [] in
-      clear-front (openTests a) six (all-clear (openTests a ++ six) tt (eqb-true (first (openTests a ++ six)) 0 e))
-
-  unheld : eqb (openNumber a) 0 ≡ true → digestPending (a .table) (a .digest) ≡ false
-  unheld e = clear e .1 .1 .1 .1 .0
-
-  unfilled : eqb (openNumber a) 0 ≡ true → full (a .table) ≡ false
-  unfilled e = clear e .1 .1 .1 .1 .1 .0
-
-  slab-whole : eqb (openNumber a) 0 ≡ true → length (a .slab) ≡ 64 * a .table .columns
-  slab-whole e = shaped _ _ _ _ _ _ _ _ _ (clear e .1 .0) .slab-whole
+  -- what it has shown where it succeeds
+  shown : eqb (openNumber a) 0 ≡ true → Ready a
+  shown e = succeeded a (eqb-true (openNumber a) 0 e) .ready
 
   stored-long : length (storedSecret a) ≡ a .table .columns
   stored-long = length-product (a .n) (a .table .columns) (secretOf a) (a .hint)
-
-  slot-in : eqb (openNumber a) 0 ≡ true → slotOf (a .table) 0 < 64
-  slot-in e = slot-free (a .table) (unfilled e) .0
 
   pub open-sized : Sized (openOf a .table)
   open-sized =
       rw (after-test (openNumber a) _ _)
       (chosen Sized (eqb (openNumber a) 0) _ _
-      (λ e. taken-sized (a .table) (slotOf (a .table) 0) (a .digest) (slot-in e) whole size)
+      (λ e. taken-sized (a .table) (slotOf (a .table) 0) (a .digest) (shown e .free) whole size)
       size)
 
   pub open-formed : malformed (a .table) ≡ false → malformed (openOf a .table) ≡ false
   open-formed well =
       rw (after-test (openNumber a) _ _)
       (chosen (λ t. malformed t ≡ false) (eqb (openNumber a) 0) _ _
-      (λ e. taken-formed (a .table) (a .digest) size whole well (unheld e) (unfilled e))
+      (λ e. taken-formed (a .table) (a .digest) size whole well (shown e .unheld) (shown e .unfilled))
       well)
 
   -- the tickets pending before, and where it succeeds its own
@@ -95,7 +79,7 @@ module _ (a : Asked) (size : Sized (a .table)) (whole : length (a .digest) ≡ 3
       → pending (openOf a .table) x ≡ (pending (a .table) x || (eqb (openNumber a) 0 && eqb x (a .table .next)))
   open-pending well x =
       rw (after-test (openNumber a) _ _)
-      (gained _ _ _ (eqb (openNumber a) 0) (λ e. taken-pending (a .table) (a .digest) x size well (unfilled e)))
+      (gained _ _ _ (eqb (openNumber a) 0) (λ e. taken-pending (a .table) (a .digest) x size well (shown e .unfilled)))
     where
       gained : (new old : Table) (y b : Bool) → (b ≡ true → pending new x ≡ (pending old x || y))
           → pending (cond b new old) x ≡ (pending old x || (b && y))
@@ -115,7 +99,7 @@ module _ (a : Asked) (size : Sized (a .table)) (whole : length (a .digest) ≡ 3
   open-others q ne = (
     rw (after-test (openNumber a) _ _)
         (chosen (λ t. Kept t (a .table) q) (eqb (openNumber a) 0) _ _
-        (λ e. taken-others (a .table) (slotOf (a .table) 0) (a .digest) (slot-in e) size whole q ne)
+        (λ e. taken-others (a .table) (slotOf (a .table) 0) (a .digest) (shown e .free) size whole q ne)
         (kept-all (a .table) q)),
     rw (after-test (openNumber a) _ _)
         (chosen (λ s. row (a .table .columns) s q ≡ row (a .table .columns) (a .slab) q) (eqb (openNumber a) 0) _ _ key-kept refl),
@@ -126,7 +110,7 @@ module _ (a : Asked) (size : Sized (a .table)) (whole : length (a .digest) ≡ 3
           ≡ row (a .table .columns) (a .slab) q
       key-kept e =
           row-kept (a .table .columns) (slotOf (a .table) 0) (storedSecret a) (a .slab)
-          (omega (arith, room (slotOf (a .table) 0) 64 (a .table .columns) (slot-in e), slab-whole e)) stored-long q ne
+          (omega (arith, room (slotOf (a .table) 0) 64 (a .table .columns) (shown e .free), shown e .shape .slab-whole)) stored-long q ne
 
 -- A slot is closed where a test holds: what a reply and a discard have in common.
 module _ (t : Table) (slab : List ℕ) (ticket : ℕ) (size : Sized t) (b : Bool)

@@ -1,38 +1,37 @@
--- Two results that a contract allows for one input coincide: the answer, the table and each output alike.
-use mathlib.Core.Path.{_≡_, refl, ap}
-use mathlib.Core.List.{List}
-use mathlib.Core.Bool.{Bool, cond}
+-- Two results that a contract allows for one input coincide: the answer, the table and each lent buffer alike. It is said of the
+-- contracts themselves, and p and q are what their clauses say of the two results.
+use mathlib.Core.Path.{_≡_, refl, ap, _∙⁻¹_}
+use mathlib.Core.Bool.{cond}
 use Prim.Native.Nat.{ℕ}
 use lib.Dec.{eqb}
-use lib.ListN.{length}
-use Rattle.laws.specs.Refusals.{OneResult, OneOutcome}
-use Rattle.laws.proofs.Refusals.{one-result, one-outcome, one-answer}
-use Rattle.client.specs.declared.table.Table.{Table}
+use Rattle.laws.specs.Contracts.{AllowsOne}
+use Rattle.laws.proofs.Contracts.{told-apart, _&_, past, skip}
 use Rattle.client.specs.declared.table.Making.{Making}
 use Rattle.client.specs.declared.table.Making.the-variants as making
-use Rattle.client.specs.declared.table.Made.{Made}
 use Rattle.client.specs.declared.open.Opening.{Opening}
 use Rattle.client.specs.declared.open.Opening.the-variants as opening
 use Rattle.client.specs.declared.reply.Reply.{Reply}
 use Rattle.client.specs.declared.reply.Reply.the-variants as reply
 use Rattle.client.specs.declared.discard.Discarding.{Discarding}
 use Rattle.client.specs.declared.discard.Discarding.the-variants as discarding
-use Rattle.client.specs.declared.discard.Discarded.{Discarded}
 use Rattle.client.specs.declared.lines.LineWritten.{LineWritten}
 use Rattle.client.specs.declared.lines.LineWritten.the-variants as written
 use Rattle.client.specs.declared.lines.LineRead.{LineRead}
 use Rattle.client.specs.declared.lines.LineRead.the-variants as read
-use Rattle.client.specs.Table.{malformed, makingNumber, freshNumber, freshAfter}
-use Rattle.client.specs.Open.{Asked, OpenLeft, openingNumber, openingTicket, openingRead, openSaid, openOf, openLeft}
-use Rattle.client.specs.Reply.{Received, replyingNumber, replyingLength, replySaid, replyOf, replySlab, replyValue}
-use Rattle.client.specs.Discard.{discardingNumber, discardNumber, discardTable, discardSlab}
-use Rattle.client.specs.Lines.{writtenNumber, writtenLength, writeNumber, writeLength, writeAfter}
-use Rattle.client.specs.Lines.{readNumberOf, readTicketOf, readColumnsOf, readNumber, readTicket, readColumns, readAfter}
+use Rattle.client.specs.Table.{makingNumber}
+use Rattle.client.specs.Open.{OpenLeft, openingNumber, openingTicket, openingRead, openSaid}
+use Rattle.client.specs.Reply.{replyingNumber, replyingLength, replySaid}
+use Rattle.client.specs.Discard.{discardingNumber}
+use Rattle.client.specs.Lines.{writtenNumber, writtenLength, readNumberOf, readTicketOf, readColumnsOf}
+use Rattle.client.proofs.table.fresh as fresh
+use Rattle.client.proofs.table.is_malformed as is-malformed
+use Rattle.client.proofs.«open».query_for_4_wise_xor_filter as query
+use Rattle.client.proofs.reply.process_response as response
+use Rattle.client.proofs.discard.discard_query as discard
+use Rattle.client.proofs.lines.write_query_line as query-line
+use Rattle.client.proofs.lines.read_response_line as response-line
 
-pub is-malformed-settled : (t : Table) → OneOutcome (λ (x : Bool). x) (malformed t)
-is-malformed-settled t = one-answer _
-
--- A fresh table: the number and the table.
+-- An answer can be made again from its number and what it gives: for `fresh` by `makingOf`, and so on for the others.
 
 abbrev makingOf : ℕ → Making
 makingOf n = cond (eqb n 0) making.Done (cond (eqb n 1) making.Width making.Shape)
@@ -42,15 +41,13 @@ making-back making.Done = refl
 making-back making.Width = refl
 making-back making.Shape = refl
 
-abbrev madeSaid : Made → ℕ × Table
-madeSaid r = (makingNumber (r .answer), r .table)
+pub fresh-settled : AllowsOne fresh.Kinds.ps fresh.Kinds.r fresh.Reads.Post
+fresh-settled κs a x y v w p q =
+    let same : x .answer ≡ y .answer = told-apart makingNumber makingOf making-back (p .0 ∙⁻¹ q .0) in
+    (λ i. record { answer = same i; table = (p .1 ∙⁻¹ q .1) i }, refl)
 
-pub fresh-settled : (b columns : ℕ) → OneOutcome madeSaid (freshNumber b columns, freshAfter b columns)
-fresh-settled b columns =
-    one-outcome madeSaid (λ p. record { answer = makingOf (p .0); table = p .1 })
-    (λ x. ap (λ (a : Making). record { answer = a; table = x .table }) (making-back (x .answer))) _
-
--- An open.
+pub is-malformed-settled : AllowsOne is-malformed.Kinds.ps is-malformed.Kinds.r is-malformed.Reads.Post
+is-malformed-settled κs a x y v w p q = (p ∙⁻¹ q, refl)
 
 abbrev openingOf : ℕ → ℕ → ℕ → Opening
 openingOf n ticket k =
@@ -76,13 +73,12 @@ opening-back opening.Numbers = refl
 opening-back opening.Short = refl
 opening-back (opening.Wraps k) = refl
 
--- its four buffers are told together
-pub query-for-4-wise-xor-filter-settled : (a : Asked) → OneResult {C = OpenLeft} openSaid (openOf a) (openLeft a)
-query-for-4-wise-xor-filter-settled a =
-    one-result openSaid (λ v. record { answer = openingOf (v .number) (v .ticket) (v .read); table = v .table })
-    (λ x. ap (λ (o : Opening). record { answer = o; table = x .table }) (opening-back (x .answer))) _ _
-
--- A reply.
+pub query-for-4-wise-xor-filter-settled : AllowsOne query.Kinds.ps query.Kinds.r query.Reads.Post
+query-for-4-wise-xor-filter-settled κs a x y v w p q = (
+  told-apart openSaid (λ s. record { answer = openingOf (s .number) (s .ticket) (s .read); table = s .table })
+      (λ o i. record { answer = opening-back (o .answer) i; table = o .table }) (p .0 ∙⁻¹ q .0),
+  ap (λ (l : OpenLeft). past 1 (l .slab, past 8 (l .secret, (l .error, (l .query, tt))))) (p .1 ∙⁻¹ q .1),
+)
 
 abbrev replyingOf : ℕ → ℕ → Reply
 replyingOf n k =
@@ -104,13 +100,12 @@ replying-back reply.Element = refl
 replying-back reply.Marker = refl
 replying-back reply.Digest = refl
 
-pub process-response-settled : (a : Received)
-    → OneResult {C = List ℕ × List ℕ} replySaid (replyOf a) (replySlab a, replyValue a)
-process-response-settled a =
-    one-result replySaid (λ v. record { answer = replyingOf (v .number) (v .length); table = v .table })
-    (λ x. ap (λ (r : Reply). record { answer = r; table = x .table }) (replying-back (x .answer))) _ _
-
--- A discard: the number and the table.
+pub process-response-settled : AllowsOne response.Kinds.ps response.Kinds.r response.Reads.Post
+process-response-settled κs a x y v w p q = (
+  told-apart replySaid (λ s. record { answer = replyingOf (s .number) (s .length); table = s .table })
+      (λ r i. record { answer = replying-back (r .answer) i; table = r .table }) (p .0 ∙⁻¹ q .0),
+  skip 1 (p .1 .0 ∙⁻¹ q .1 .0 & skip 3 (p .1 .1 ∙⁻¹ q .1 .1 & refl)),
+)
 
 abbrev discardingOf : ℕ → Discarding
 discardingOf n =
@@ -122,16 +117,12 @@ discarding-back discarding.Malformed = refl
 discarding-back discarding.Shape = refl
 discarding-back discarding.NotPending = refl
 
-abbrev discardSaid : Discarded → ℕ × Table
-discardSaid r = (discardingNumber (r .answer), r .table)
-
-pub discard-query-settled : (t : Table) (slab : List ℕ) (ticket : ℕ)
-    → OneResult discardSaid (discardNumber t (length slab) ticket, discardTable t slab ticket) (discardSlab t slab ticket)
-discard-query-settled t slab ticket =
-    one-result discardSaid (λ p. record { answer = discardingOf (p .0); table = p .1 })
-    (λ x. ap (λ (d : Discarding). record { answer = d; table = x .table }) (discarding-back (x .answer))) _ _
-
--- The lines.
+pub discard-query-settled : AllowsOne discard.Kinds.ps discard.Kinds.r discard.Reads.Post
+discard-query-settled κs a x y v w p q =
+    let same : x .answer ≡ y .answer = told-apart discardingNumber discardingOf discarding-back (p .0 ∙⁻¹ q .0) in (
+      λ i. record { answer = same i; table = (p .1 .0 ∙⁻¹ q .1 .0) i },
+      skip 1 (p .1 .1 ∙⁻¹ q .1 .1 & refl),
+    )
 
 abbrev writtenSaid : LineWritten → ℕ × ℕ
 writtenSaid r = (writtenNumber r, writtenLength r)
@@ -144,10 +135,11 @@ written-back (written.Line n) = refl
 written-back written.NoTicket = refl
 written-back written.Shape = refl
 
-pub write-query-line-settled : (ticket : ℕ) (words out : List ℕ)
-    → OneResult writtenSaid (writeNumber ticket (length words) (length out), writeLength ticket (length words) (length out))
-    (writeAfter 1 ticket words out)
-write-query-line-settled ticket words out = one-result writtenSaid writtenOf written-back _ _
+pub write-query-line-settled : AllowsOne query-line.Kinds.ps query-line.Kinds.r query-line.Reads.Post
+write-query-line-settled κs a x y v w p q = (
+  told-apart writtenSaid writtenOf written-back (λ i. ((p .0 ∙⁻¹ q .0) i, (p .1 .0 ∙⁻¹ q .1 .0) i)),
+  skip 2 (p .1 .1 ∙⁻¹ q .1 .1 & refl),
+)
 
 abbrev readSaid : LineRead → ℕ × ℕ × ℕ
 readSaid r = (readNumberOf r, readTicketOf r, readColumnsOf r)
@@ -160,7 +152,8 @@ read-back (read.Words t n) = refl
 read-back read.Malformed = refl
 read-back read.Shape = refl
 
-pub read-response-line-settled : (line out : List ℕ)
-    → OneResult readSaid (readNumber 2 line (length out), readTicket 2 line (length out), readColumns 2 line (length out))
-    (readAfter 2 line out)
-read-response-line-settled line out = one-result readSaid readOf read-back _ _
+pub read-response-line-settled : AllowsOne response-line.Kinds.ps response-line.Kinds.r response-line.Reads.Post
+read-response-line-settled κs a x y v w p q = (
+  told-apart readSaid readOf read-back (λ i. ((p .0 ∙⁻¹ q .0) i, (p .1 .0 ∙⁻¹ q .1 .0) i, (p .1 .1 .0 ∙⁻¹ q .1 .1 .0) i)),
+  skip 1 (p .1 .1 .1 ∙⁻¹ q .1 .1 .1 & refl),
+)

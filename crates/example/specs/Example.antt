@@ -1,17 +1,21 @@
 -- A run to hold the demand against: one store with one key, and seven events. The statement is not vacuous.
-use Prim.Native.Nat.{ℕ}
+use mathlib.Core.Path.{_≡_}
+use mathlib.Core.Bool.{Bool, false, not, _&&_}
+use Prim.Native.Nat.{ℕ, _^_}
 use mathlib.Core.List.{List, [], _∷_, _++_}
-use lib.ListN.{length, replicate}
-use Rattle.laws.specs.Refusals.{after}
+use lib.IntN.{ℤ, pos, negℤ}
+use lib.ListN.{getD, replicate}
+use lib.Signed.{ltZ, leZ}
+use Rattle.laws.specs.Search.{some}
+use Rattle.plain.specs.Matrix.{cell}
 use Rattle.arith.specs.Codec.{rowOf}
 use Rattle.builder.specs.Database.{buildAfter}
-use Rattle.client.specs.Open.{openNumber, openOf}
-use Rattle.client.specs.Reply.{replyNumber, replyValue}
-use Rattle.client.specs.Discard.{discardNumber}
-use Rattle.client.specs.Lines.{readNumber}
-use Rattle.recovery.specs.Store.{Store}
-use Rattle.recovery.specs.Run.{State, Ask, Event, opens, replies, comes, discards, asking, telling, readFrom, step, run, start}
-use Rattle.recovery.specs.Demand.{lineOf}
+use Rattle.client.specs.Open.{errorOf}
+use Rattle.runs.specs.Run.{Lent, State, Ask, Event, opens, comes, discards, asking, step, run, start}
+use Rattle.runs.specs.Said.{said}
+use Rattle.recovery.specs.Noise.{noise}
+use Rattle.recovery.specs.Store.{Store, Sound, callsOf}
+use Rattle.recovery.specs.Demand.{lineOf, Placed, Waiting}
 
 -- the key: a digest of threes, the value [5 6], masks of nines, positions 0 1 2 3, its target the third
 abbrev pub value : List ℕ
@@ -34,6 +38,9 @@ store = record {
   elements = buildAfter 14 5 20 1 (rowOf 14 20 (replicate 32 3) value) masks places (2 ∷ []) (replicate 100 0);
 }
 
+abbrev pub calls : Lent
+calls = callsOf store
+
 -- an open for the key with a digest of these bytes: a secret of 1, and errors 0 1 -1 0 0; all buffers hold sevens
 abbrev pub ask : ℕ → Ask
 ask byte = record {
@@ -47,7 +54,7 @@ ask byte = record {
 }
 
 abbrev pub before : State
-before = start store (replicate 1280 7)
+before = start 14 20 (replicate 1280 7)
 
 -- ticket 1 is opened and discarded
 abbrev pub opening : List Event
@@ -58,17 +65,17 @@ abbrev pub lineOne : List ℕ
 lineOne = lineOf store before (ask 3)
 
 abbrev pub lineTwo : List ℕ
-lineTwo = lineOf store (run store before opening) (ask 3)
+lineTwo = lineOf store (run calls before opening) (ask 3)
 
 abbrev pub arriving : List ℕ → Event
 arriving line = comes line (replicate 20 7) masks (7 ∷ 7 ∷ 7 ∷ [])
 
 -- when ticket 2 is opened, and when its line comes
 abbrev pub then : State
-then = run store before opening
+then = run calls before opening
 
 abbrev pub later : State
-later = run store (step store then (opens (ask 3))) (arriving lineOne ∷ [])
+later = run calls (step calls then (opens (ask 3))) (arriving lineOne ∷ [])
 
 -- Ticket 1 is opened and discarded; ticket 2 is opened; the line of ticket 1 comes late; that of ticket 2 comes, and again; ticket
 -- 3 is opened, and its line is lost.
@@ -77,28 +84,36 @@ events =
     opening
     ++ (opens (ask 3) ∷ arriving lineOne ∷ arriving lineTwo ∷ arriving lineTwo ∷ opens (ask 4) ∷ [])
 
--- what an event is answered: its number; then the ticket of an open, or the value buffer of a reply
-abbrev pub told : State → Event → List ℕ
-told s (opens a) = openNumber (asking store s a) ∷ openOf (asking store s a) .ticket ∷ []
-told s (replies a) = replyNumber (telling s a) ∷ replyValue (telling s a)
-told s (comes line out masks value) =
-    after (readNumber 2 line (length out))
-    (replyNumber (telling s (readFrom line out masks value)) ∷ replyValue (telling s (readFrom line out masks value)))
-    (readNumber 2 line (length out) ∷ value)
-told s (discards ticket) = discardNumber (s .table) (length (s .slab)) ticket ∷ []
-
+-- what each event is answered: its number, the ticket that it gives or names, the value's length; and then the value buffer
 unfoldable pub allTold : State → List Event → List (List ℕ)
 allTold s [] = []
-allTold s (e ∷ es) = told s e ∷ allTold (step store s e) es
+allTold s (e ∷ es) =
+    (said calls s e .number ∷ said calls s e .ticket ∷ said calls s e .length ∷ said calls s e .value)
+    ∷ allTold (step calls s e) es
 
 -- Opened and discarded, opened again; 10 for the late line; the key's bytes, and then 10; opened.
 abbrev pub stated : List (List ℕ)
 stated =
-    (0 ∷ 1 ∷ [])
-    ∷ (0 ∷ [])
-    ∷ (0 ∷ 2 ∷ [])
-    ∷ (10 ∷ 7 ∷ 7 ∷ 7 ∷ [])
-    ∷ (0 ∷ 5 ∷ 6 ∷ 7 ∷ [])
-    ∷ (10 ∷ 7 ∷ 7 ∷ 7 ∷ [])
-    ∷ (0 ∷ 3 ∷ [])
+    (0 ∷ 1 ∷ 0 ∷ [])
+    ∷ (0 ∷ 0 ∷ 0 ∷ [])
+    ∷ (0 ∷ 2 ∷ 0 ∷ [])
+    ∷ (10 ∷ 1 ∷ 0 ∷ 7 ∷ 7 ∷ 7 ∷ [])
+    ∷ (0 ∷ 2 ∷ 2 ∷ 5 ∷ 6 ∷ 7 ∷ [])
+    ∷ (10 ∷ 2 ∷ 0 ∷ 7 ∷ 7 ∷ 7 ∷ [])
+    ∷ (0 ∷ 3 ∷ 0 ∷ [])
     ∷ []
+
+-- the noise of ticket 2 in column j, and that it does not keep its bound
+abbrev pub column : ℕ → ℤ
+column j = noise 5 (λ i. getD (errorOf (asking calls then (ask 3))) i 0) (λ i. cell 20 (store .elements) i j)
+
+abbrev pub loud : ℕ → Bool
+loud j = not (ltZ (negℤ (pos (2 ^ 17))) (column j) && leZ (column j) (pos (2 ^ 17)))
+
+-- all that is computed: the answers, and what the demand supposes
+pub record Shown : Type 0 where
+  pub told : allTold before events ≡ stated
+  pub sound : Sound store
+  pub key-placed : Placed store (ask 3) masks value
+  pub waits : Waiting store then (ask 3) later
+  pub none-loud : some 20 loud ≡ false

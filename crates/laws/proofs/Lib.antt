@@ -1,4 +1,5 @@
 -- Laws about the definitions of specs/. Each stands once, over any element, width or length that it holds for.
+pub mod Contracts
 pub mod Refusals
 pub mod Lists
 pub mod Filling

@@ -1,5 +1,5 @@
--- What a test that did not hold says, and that one equation allows one result.
-use mathlib.Core.Path.{_≡_, refl, sym, ap, ap₂, _∙_}
+-- What a test that did not hold says, and what a buffer holds after an answer.
+use mathlib.Core.Path.{_≡_, refl, sym, ap₂, _∙_}
 use mathlib.Core.Bool.{Bool, true, false, _||_}
 use mathlib.Core.List.{List, [], _∷_, _++_}
 use Prim.Native.Nat.{ℕ, zero, suc, _<_, _≤_}
@@ -8,7 +8,7 @@ use native.Mathlib.Decide.{ℕ-discrete}
 use native.Mathlib.Omega.{arith}
 use lib.Dec.{ltb, eqb}
 use borrow.Author.Tests.{ltb-false, le-ltb, eq-eqb, ne-eqb}
-use Rattle.laws.specs.Refusals.{Test, _⇒_, first, after, outside, OneResult, OneOutcome}
+use Rattle.laws.specs.Refusals.{Test, _⇒_, first, after, outside}
 
 pub neither : (s t : Bool) → (s || t) ≡ false → (s ≡ false) × (t ≡ false)
 neither true t e = let z : _≡_ {A = ℕ} 0 1 = cc in absurd (omega arith)
@@ -57,10 +57,6 @@ all-clear [] h e = tt
 all-clear ((t ⇒ zero) ∷ ts) h e = absurd h
 all-clear ((t ⇒ suc n) ∷ ts) h e = let p = passed t n ts e in (p .0, all-clear ts h (p .1))
 
-pub clear-front : (ts us : List Test) → Clear (ts ++ us) → Clear ts
-clear-front [] us h = tt
-clear-front ((t ⇒ n) ∷ ts) us h = (h .0, clear-front ts us (h .1))
-
 pub clear-before : (ts us : List Test) → Clear ts → first (ts ++ us) ≡ first us
 clear-before [] us h = refl
 clear-before ((t ⇒ n) ∷ ts) us h = rw (h .0) (clear-before ts us (h .1))
@@ -82,17 +78,3 @@ kept (suc n) new old h = refl
 
 pub written : {A : Type 0} (n : ℕ) (new old : A) → n ≡ 0 → new ≡ after n new old
 written n new old e = rw e
-
--- Two results that one equation allows coincide, where a result can be told from what is said of it.
-pub one-outcome : {A B : Type 0} (said : A → B) (told : B → A) → ((x : A) → told (said x) ≡ x) → (v : B)
-    → OneOutcome said v
-one-outcome said told back v r s p q = sym (back r) ∙ ap told (p ∙ sym q) ∙ back s
-
--- a result that is the value itself
-pub one-answer : {A : Type 0} (v : A) → OneOutcome (λ (x : A). x) v
-one-answer v r s p q = p ∙ sym q
-
--- and so do the outputs beside them
-pub one-result : {A B C : Type 0} (said : A → B) (told : B → A) → ((x : A) → told (said x) ≡ x) → (v : B) (after : C)
-    → OneResult said v after
-one-result said told back v after r s x y p q = (one-outcome said told back v r s (p .0) (q .0), p .1 ∙ sym (q .1))

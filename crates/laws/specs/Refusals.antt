@@ -1,5 +1,4 @@
 -- Document 01, "Refusal numbers": the order in which an entry's tests are made, and what a buffer holds after its answer.
-use mathlib.Core.Path.{_≡_}
 use Prim.Native.Nat.{ℕ, zero, suc}
 use mathlib.Core.Bool.{Bool, cond, _||_}
 use mathlib.Core.List.{List, [], _∷_}
@@ -28,16 +27,3 @@ outside lo hi x = ltb x lo || ltb hi x
 -- 1: b outside 4..=14
 abbrev pub widthBad : ℕ → Bool
 widthBad b = outside 4 14 b
-
--- The clauses of a contract leave one result. `said` is all that they say of an answer, which `v` is to be; `after` is what
--- they say of the outputs at exit.
-abbrev pub OneResult : {A B C : Type 0} → (A → B) → B → C → Type 0
-OneResult {A} {B} {C} said v after =
-    (r s : A) (x y : C)
-    → (said r ≡ v) × (x ≡ after)
-    → (said s ≡ v) × (y ≡ after)
-    → (r ≡ s) × (x ≡ y)
-
--- the same of an entry that has no output
-abbrev pub OneOutcome : {A B : Type 0} → (A → B) → B → Type 0
-OneOutcome {A} {B} said v = (r s : A) → said r ≡ v → said s ≡ v → r ≡ s

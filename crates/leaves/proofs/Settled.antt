@@ -1,39 +1,40 @@
--- Two results that a contract allows for one input coincide. A leaf answers the definition's value itself, and `zero` writes it.
-use mathlib.Core.List.{List}
-use mathlib.Core.Bool.{Bool}
-use Prim.Native.Nat.{ℕ}
-use Rattle.laws.specs.Refusals.{OneOutcome, outside, widthBad}
-use Rattle.laws.proofs.Refusals.{one-answer}
-use Rattle.leaves.specs.Limits.{anyAbove}
-use Rattle.leaves.specs.Positions.{positionsBad}
-use Rattle.leaves.specs.Digests.{differs}
-use Rattle.leaves.specs.Rounding.{indicatorOf, rounded}
-use Rattle.leaves.specs.Words.{zeroed, timesWord}
+-- Two results that a leaf's own contract allows for one input coincide: each answers a definition's value, and `zero` writes it.
+use mathlib.Core.Path.{refl, _∙⁻¹_}
+use Rattle.laws.specs.Contracts.{AllowsOne}
+use Rattle.laws.proofs.Contracts.{_&_}
+use Rattle.leaves.proofs.limits.out_of
+use Rattle.leaves.proofs.limits.width_bad
+use Rattle.leaves.proofs.limits.any_above
+use Rattle.leaves.proofs.positions.positions_bad
+use Rattle.leaves.proofs.digests.digest_differs
+use Rattle.leaves.proofs.rounding.calculate_query_indicator as indicator
+use Rattle.leaves.proofs.rounding.rounded
+use Rattle.leaves.proofs.words.wrapping_mul
+use Rattle.leaves.proofs.words.zero
 
-pub out-of-settled : (lo hi x : ℕ) → OneOutcome (λ (r : Bool). r) (outside lo hi x)
-out-of-settled lo hi x = one-answer _
+pub out-of-settled : AllowsOne out_of.Kinds.ps out_of.Kinds.r out_of.Reads.Post
+out-of-settled κs a x y v w p q = (p ∙⁻¹ q, refl)
 
-pub width-bad-settled : (b : ℕ) → OneOutcome (λ (r : Bool). r) (widthBad b)
-width-bad-settled b = one-answer _
+pub width-bad-settled : AllowsOne width_bad.Kinds.ps width_bad.Kinds.r width_bad.Reads.Post
+width-bad-settled κs a x y v w p q = (p ∙⁻¹ q, refl)
 
-pub any-above-settled : (greatest : ℕ) (elements : List ℕ) → OneOutcome (λ (r : Bool). r) (anyAbove greatest elements)
-any-above-settled greatest elements = one-answer _
+pub any-above-settled : AllowsOne any_above.Kinds.ps any_above.Kinds.r any_above.Reads.Post
+any-above-settled κs a x y v w p q = (p ∙⁻¹ q, refl)
 
-pub positions-bad-settled : (r : ℕ) (ps : List ℕ) → OneOutcome (λ (a : Bool). a) (positionsBad r ps)
-positions-bad-settled r ps = one-answer _
+pub positions-bad-settled : AllowsOne positions_bad.Kinds.ps positions_bad.Kinds.r positions_bad.Reads.Post
+positions-bad-settled κs a x y v w p q = (p ∙⁻¹ q, refl)
 
-pub digest-differs-settled : (x y : List ℕ) → OneOutcome (λ (r : Bool). r) (differs x y)
-digest-differs-settled x y = one-answer _
+pub digest-differs-settled : AllowsOne digest_differs.Kinds.ps digest_differs.Kinds.r digest_differs.Reads.Post
+digest-differs-settled κs a x y v w p q = (p ∙⁻¹ q, refl)
 
-pub calculate-query-indicator-settled : (b : ℕ) → OneOutcome (λ (r : ℕ). r) (indicatorOf b)
-calculate-query-indicator-settled b = one-answer _
+pub calculate-query-indicator-settled : AllowsOne indicator.Kinds.ps indicator.Kinds.r indicator.Reads.Post
+calculate-query-indicator-settled κs a x y v w p q = (p ∙⁻¹ q, refl)
 
-pub rounded-settled : (b u : ℕ) → OneOutcome (λ (r : ℕ). r) (rounded b u)
-rounded-settled b u = one-answer _
+pub rounded-settled : AllowsOne rounded.Kinds.ps rounded.Kinds.r rounded.Reads.Post
+rounded-settled κs a x y v w p q = (p ∙⁻¹ q, refl)
 
-pub wrapping-mul-settled : (x y : ℕ) → OneOutcome (λ (r : ℕ). r) (timesWord x y)
-wrapping-mul-settled x y = one-answer _
+pub wrapping-mul-settled : AllowsOne wrapping_mul.Kinds.ps wrapping_mul.Kinds.r wrapping_mul.Reads.Post
+wrapping-mul-settled κs a x y v w p q = (p ∙⁻¹ q, refl)
 
--- what the words hold at exit
-pub zero-settled : (words : List ℕ) → OneOutcome (λ (xs : List ℕ). xs) (zeroed words)
-zero-settled words = one-answer _
+pub zero-settled : AllowsOne zero.Kinds.ps zero.Kinds.r zero.Reads.Post
+zero-settled κs a x y v w p q = (refl, p ∙⁻¹ q & refl)

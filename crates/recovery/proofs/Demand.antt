@@ -1,153 +1,200 @@
 -- Demand 3 of document 00, proved of every sound store.
-use mathlib.Core.Path.{_≡_, sym, ap, ap₂, _∙_}
+use mathlib.Core.Path.{_≡_, refl, sym, ap, ap₂, _∙_}
 use mathlib.Core.Bool.{false}
 use mathlib.Core.List.{List}
-use Prim.Native.Nat.{ℕ, _≤_}
+use Prim.Native.Nat.{ℕ, _^_, _<_, _≤_}
+use native.Mathlib.Decide.{decLt}
 use native.Mathlib.Omega.{arith}
-use lib.ListN.{length, take}
+use lib.ListN.{length, getD}
+use borrow.Author.Tests.{eq-eqb}
 use Rattle.laws.specs.Lists.{row, laid}
 use Rattle.laws.proofs.Refusals.{written}
-use borrow.Author.Tests.{eq-eqb}
-use Rattle.arith.specs.Codec.{rowOf, valueLength, valueOf}
-use Rattle.client.specs.Table.{pending, slotOf, digestAt}
-use Rattle.client.specs.Open.{Asked, errorOf, storedSecret, secretOf, noisy, marked}
-use Rattle.client.specs.Reply.{slotFor, rowFor, rowNumber, replyNumber, replyOf, replyValue}
-use Rattle.client.specs.Lines.{readNumber, readTicket, readColumns, readAfter}
-use Rattle.recovery.specs.Store.{Store, Sound, served, Calm, wanted}
-use Rattle.recovery.specs.Run.{State, Ask, opens, comes, asking, telling, replied, step, start}
-use Rattle.recovery.specs.Demand.{Reached, Since, Waiting, queryOf, lineOf, honest, Roomy, Placed, Demand}
-use Rattle.recovery.proofs.Healthy.{Healthy, start-healthy, step-healthy, run-healthy}
-use Rattle.recovery.proofs.Groups.{grouped}
-use Rattle.recovery.proofs.Held.{held, next-ticket}
-use Rattle.recovery.proofs.Gone.{gone}
-use Rattle.recovery.proofs.Touched.{own-slot}
-use Rattle.recovery.proofs.Errors.{error-word}
-use Rattle.recovery.proofs.Query.{well-placed, rows-in, length-marked, query-is, query-word}
-use Rattle.recovery.proofs.Line.{line-back}
 use Rattle.plain.proofs.matrix.Cells.{length-product}
+use Rattle.arith.specs.Codec.{rowOf, valueLength, valueOf}
+use Rattle.client.specs.Table.{pending, slotOf, digestAt, freshNumber}
+use Rattle.client.specs.Open.{Asked, errorOf, storedSecret, secretOf, noisy, marked}
+use Rattle.client.specs.Reply.{slotFor, rowFor, rowNumber, replyNumber}
+use Rattle.client.specs.Lines.{lineTicket, readNumber, readTicket}
+use Rattle.client.proofs.open.Answers.{Ready, succeeded}
+use Rattle.runs.specs.Run.{Lent, State, Ask, opens, comes, asking, telling, readFrom, Brings, step, start}
+use Rattle.runs.specs.Said.{said, Refused}
+use Rattle.runs.proofs.Steps.{does}
+use Rattle.runs.proofs.Healthy.{Healthy, start-healthy, step-healthy, run-healthy, lent-good}
+use Rattle.runs.proofs.Touched.{does-others}
+use Rattle.runs.proofs.Groups.{grouped}
+use Rattle.runs.proofs.Held.{held, next-ticket}
+use Rattle.runs.proofs.Brings.{Told, told, unread}
+use Rattle.runs.proofs.Gone.{gone-refused, gone-ten}
+use Rattle.recovery.specs.Store.{Store, Sound, callsOf, served, Calm, wanted}
+use Rattle.recovery.specs.Demand.{Reached, Since, Waiting, ticketOf, queryOf, lineOf, honest, Roomy, Placed, Demand}
+use Rattle.recovery.proofs.Errors.{error-word}
+use Rattle.recovery.proofs.Query.{length-marked, query-is, query-word}
+use Rattle.recovery.proofs.Line.{line-ticket, line-brings}
 use Rattle.recovery.proofs.Row.{recovered-row}
 use Rattle.recovery.proofs.Value.{Gives, value-read, placed}
 
 module _ (st : Store) (sound : Sound st) where
-  reached-healthy : (s : State) → Reached st s → Healthy st s
+  abbrev calls : Lent
+  calls = callsOf st
+
+  -- a table can be made for it
+  made : freshNumber (st .b) (st .columns) ≡ 0
+  unfolding freshNumber
+  made = rw (sound .width, sound .sizes)
+
+  reached-healthy : (s : State) → Reached st s → Healthy (st .b) (st .columns) s
   reached-healthy s r =
-      rw (r .is) (run-healthy st (start st (r .slab)) (r .events) (r .typed) (start-healthy st (r .slab) sound (r .whole)))
+      rw (r .is) (run-healthy calls (start (st .b) (st .columns) (r .slab)) (r .events) (r .typed)
+      (start-healthy (st .b) (st .columns) (r .slab) made (r .whole)))
 
   -- an open that succeeded, and any events since
   module _ (s u : State) (a : Ask) (w : Since st s a u) where
-    healthy : Healthy st s
+    abbrev opening : Asked
+    opening = asking calls s a
+
+    healthy : Healthy (st .b) (st .columns) s
     healthy = reached-healthy s (w .reached)
 
-    later-healthy : Healthy st u
+    later-healthy : Healthy (st .b) (st .columns) u
     later-healthy =
-        rw (w .is) (run-healthy st (step st s (opens a)) (w .later) (w .typed) (step-healthy st s (opens a) (w .digest, tt) healthy))
+        rw (w .is) (run-healthy calls (step calls s (opens a)) (w .later) (w .typed) (step-healthy calls s (opens a) (w .digest) healthy))
+
+    ready : Ready opening
+    ready = succeeded opening (w .opened) .ready
 
     -- the query, with the store's b in place of the table's
-    query : queryOf st s a ≡ marked (st .b) (a .positions) (noisy (st .n) (st .r) (secretOf (asking st s a)) (st .matrix) (errorOf (asking st s a)))
-    query = rw (← healthy .width) (query-is (asking st s a) (w .opened))
+    query : queryOf st s a ≡ marked (st .b) (a .positions) (noisy (st .n) (st .r) (secretOf opening) (st .matrix) (errorOf opening))
+    query = rw (← healthy .width) (query-is opening (w .opened))
+
+    long : length (queryOf st s a) ≡ st .r
+    long = ap length (query-is opening (w .opened)) ∙ length-marked opening (w .opened)
+
+    -- its ticket is the next number
+    is-next : ticketOf st s a ≡ s .table .next
+    is-next = sym (written _ (s .table .next) 0 (w .opened))
+
+    some : 0 < ticketOf st s a
+    some = rw is-next (next-ticket calls s a healthy (w .digest) (w .opened))
+
+    small : ticketOf st s a < 2 ^ 32
+    small = omega (arith, is-next, healthy .next)
+
+    word : (i : ℕ) → getD (queryOf st s a) i 0 < 2 ^ 32
+    word i = rw (query-is opening (w .opened)) (query-word opening (w .opened) i)
 
     line : (out masks value : List ℕ) → st .columns ≤ length out
-        → step st u (comes (lineOf st s a) out masks value) ≡ replied u (honest st s a masks value)
-    line out masks value room =
-        sym (written _ _ u (back .0))
-        ∙ ap (replied u)
-        (ap₂ (λ (t : ℕ) (r : List ℕ). record { ticket = t; response = r; masks = masks; value = value }) (back .1) (back .2))
-      where
-        o : Asked
-        o = asking st s a
+        → Brings (comes (lineOf st s a) out masks value) (honest st s a masks value)
+    line =
+        line-brings st sound (ticketOf st s a) (queryOf st s a) some small word
+        (omega (arith, long, ready .shape .r-least)) (omega (arith, long, ready .shape .r-most))
 
-        long : length (queryOf st s a) ≡ st .r
-        long = ap length (query-is o (w .opened)) ∙ length-marked o (w .opened)
+    ticket : lineTicket (lineOf st s a) ≡ ticketOf st s a
+    ticket =
+        line-ticket st sound (ticketOf st s a) (queryOf st s a) some small word
+        (omega (arith, long, ready .shape .r-least)) (omega (arith, long, ready .shape .r-most))
 
-        back : (readNumber 2 (lineOf st s a) (length out) ≡ 0)
-            × (readTicket 2 (lineOf st s a) (length out) ≡ s .table .next)
-            × (take (readColumns 2 (lineOf st s a) (length out)) (readAfter 2 (lineOf st s a) out) ≡ served st (queryOf st s a))
-        back =
-            let r = rows-in o (w .opened) in
-            line-back st (s .table .next) (queryOf st s a) out sound
-            (next-ticket st s a healthy (w .digest) (w .opened))
-            (omega (arith, healthy .next))
-            (λ i. rw (query-is o (w .opened)) (query-word o (w .opened) i))
-            (omega (arith, long))
-            (omega (arith, long))
-            room
+    module _ (out masks value : List ℕ) where
+      abbrev number : ℕ
+      number = readNumber 2 (lineOf st s a) (length out)
 
-    late : pending (u .table) (s .table .next) ≡ false → (out masks value : List ℕ) → st .columns ≤ length out
-        → Roomy u (honest st s a masks value)
-        → (replyNumber (telling u (honest st s a masks value)) ≡ 10)
-        × (step st u (comes (lineOf st s a) out masks value) ≡ u)
-        × (replyValue (telling u (honest st s a masks value)) ≡ value)
-    late none out masks value room roomy =
-        let g = gone st u (honest st s a masks value) later-healthy none in
-        (g .3 roomy, line out masks value room ∙ g .0, g .1)
+      late : pending (u .table) (ticketOf st s a) ≡ false
+          → Refused calls u (comes (lineOf st s a) out masks value) value
+          × (st .columns ≤ length out → Roomy st masks value → said calls u (comes (lineOf st s a) out masks value) .number ≡ 10)
+      late none = (
+        elim (decLt 0 number) [
+          | yes h ↦ unread calls u (lineOf st s a) out masks value h
+          | no g ↦ let taken : number ≡ 0 = omega arith in
+              let named : readTicket 2 (lineOf st s a) (length out) ≡ ticketOf st s a =
+              sym (written number (lineTicket (lineOf st s a)) 0 taken) ∙ ticket in
+              gone-refused u (readFrom (lineOf st s a) out masks value) (ap (pending (u .table)) named ∙ none) calls
+              (comes (lineOf st s a) out masks value) (taken, refl)
+        ],
+        λ room roomy.
+            gone-ten u (honest st s a masks value) none calls (comes (lineOf st s a) out masks value) (line out masks value room)
+            later-healthy (roomy .0) (roomy .1),
+      )
 
   -- and its ticket is still pending
   module _ (s u : State) (a : Ask) (p : Waiting st s a u) where
     abbrev w : Since st s a u
     w = p .since
 
-    own : (digestAt (u .table) (slotOf (u .table) (s .table .next)) ≡ a .digest)
-        × (row (st .columns) (u .slab) (slotOf (u .table) (s .table .next)) ≡ storedSecret (asking st s a))
-    own = rw (w .is) (held st s a (healthy s u a w) (w .digest) (w .opened) (w .later) (w .typed) (rw (w .is) at (p .still)))
+    own : (digestAt (u .table) (slotOf (u .table) (ticketOf st s a)) ≡ a .digest)
+        × (row (st .columns) (u .slab) (slotOf (u .table) (ticketOf st s a)) ≡ storedSecret (asking calls s a))
+    own =
+        rw (is-next s u a w, w .is)
+        (held calls s a (healthy s u a w) (w .digest) (w .opened) (w .later) (w .typed) (rw (is-next s u a w, w .is) at (p .still)))
 
-    recovers : Calm st (errorOf (asking st s a)) → (masks value : List ℕ) → Roomy u (honest st s a masks value)
-        → rowFor (telling u (honest st s a masks value)) ≡ wanted st (a .positions) masks
-    recovers calm masks value roomy =
-        rw (query s u a w, later-healthy s u a w .width, later-healthy s u a w .columns, own .1, healthy s u a w .columns)
-        (recovered-row st (secretOf (asking st s a)) (errorOf (asking st s a)) (a .positions) masks sound
-        (well-placed (asking st s a) (w .opened)) (λ i _. error-word (asking st s a) i) calm)
+    module _ (calm : Calm st (errorOf (asking calls s a))) (masks value : List ℕ) (roomy : Roomy st masks value) where
+      -- the row of what the line has to say
+      honest-row : rowFor (telling u (honest st s a masks value)) ≡ wanted st (a .positions) masks
+      honest-row =
+          rw (query s u a w, later-healthy s u a w .width, later-healthy s u a w .columns, own .1, healthy s u a w .columns)
+          (recovered-row st (secretOf (asking calls s a)) (errorOf (asking calls s a)) (a .positions) masks sound
+          (ready s u a w .places) (λ i _. error-word (asking calls s a) i) calm)
 
-    -- past the tests that need no row, the row decides
-    row-decides : (masks value : List ℕ) → Roomy u (honest st s a masks value)
-        → replyNumber (telling u (honest st s a masks value))
-        ≡ rowNumber (u .table) (slotFor (telling u (honest st s a masks value))) (rowFor (telling u (honest st s a masks value)))
-    unfolding replyNumber rowNumber
-    row-decides masks value roomy =
-        let wide = eq-eqb (length (served st (queryOf st s a))) (u .table .columns)
-        (length-product (st .r) (st .columns) (queryOf st s a) (st .elements) ∙ sym (later-healthy s u a w .columns)) in
-        rw (later-healthy s u a w .formed, roomy, p .still, wide)
+      -- past the tests that need no row, the row decides
+      row-decides : replyNumber (telling u (honest st s a masks value))
+          ≡ rowNumber (u .table) (slotFor (telling u (honest st s a masks value))) (rowFor (telling u (honest st s a masks value)))
+      unfolding replyNumber rowNumber
+      row-decides =
+          let lent = lent-good (st .b) (st .columns) (later-healthy s u a w) masks value (roomy .0) (roomy .1) in
+          let wide = eq-eqb (length (served st (queryOf st s a))) (u .table .columns)
+          (length-product (st .r) (st .columns) (queryOf st s a) (st .elements) ∙ sym (later-healthy s u a w .columns)) in
+          rw (later-healthy s u a w .formed, lent, p .still, wide)
 
-    answers : Calm st (errorOf (asking st s a)) → (masks value v : List ℕ) → Roomy u (honest st s a masks value) → Placed st a masks v
-        → (replyNumber (telling u (honest st s a masks value)) ≡ 0)
-        × (replyOf (telling u (honest st s a masks value)) .length ≡ length v)
-        × (replyValue (telling u (honest st s a masks value)) ≡ laid v value)
-    answers calm masks value v roomy k = (
-      number,
-      sym (written _ _ 0 number) ∙ ap (valueLength (u .table .b) (u .table .columns)) found ∙ gives .length-is,
-      sym (written _ _ value number)
-          ∙ ap (λ (x : List ℕ). laid x value) (ap (valueOf (u .table .b) (u .table .columns)) found ∙ gives .value-is),
-    )
-      where
-        -- the recovered row is the one that the writer made for the key
-        found : rowFor (telling u (honest st s a masks value)) ≡ rowOf (st .b) (st .columns) (a .digest) v
-        found =
-            recovers calm masks value roomy
-            ∙ ap₂ (wanted st) (k .its-positions) (k .its-masks)
-            ∙ placed st (k .count) (k .rows) (k .allMasks) (k .positions) (k .targets) (k .held) (k .built) (k .elements) (k .i) (k .below)
-            ∙ k .its-row
+      module _ (out : List ℕ) (room : st .columns ≤ length out) where
+        recovers : rowFor (telling u (readFrom (lineOf st s a) out masks value)) ≡ wanted st (a .positions) masks
+        recovers = ap (λ x. rowFor (telling u x)) (line s u a w out masks value room .1) ∙ honest-row
 
-        gives : Gives (u .table) (slotOf (u .table) (s .table .next)) (rowOf (st .b) (st .columns) (a .digest) v) v
-        gives =
-            value-read (st .b) (st .columns) (st .columns) (a .digest) v (k .written) (w .digest) (k .digest-bytes) (k .value-bytes)
-            (u .table) (later-healthy s u a w .width) (later-healthy s u a w .columns) (slotOf (u .table) (s .table .next)) (own .0)
+        answers : (v : List ℕ) → Placed st a masks v
+            → (said calls u (comes (lineOf st s a) out masks value) .number ≡ 0)
+            × (said calls u (comes (lineOf st s a) out masks value) .length ≡ length v)
+            × (said calls u (comes (lineOf st s a) out masks value) .value ≡ laid v value)
+        answers v k = (
+          t .number ∙ number,
+          t .length
+              ∙ sym (written _ _ 0 number)
+              ∙ ap (valueLength (u .table .b) (u .table .columns)) found
+              ∙ gives .length-is,
+          t .value
+              ∙ sym (written _ _ value number)
+              ∙ ap (λ (x : List ℕ). laid x value) (ap (valueOf (u .table .b) (u .table .columns)) found ∙ gives .value-is),
+        )
+          where
+            t : Told calls u (comes (lineOf st s a) out masks value) (honest st s a masks value)
+            t = told calls u (comes (lineOf st s a) out masks value) (honest st s a masks value) (line s u a w out masks value room)
 
-        number : replyNumber (telling u (honest st s a masks value)) ≡ 0
-        number =
-            row-decides masks value roomy
-            ∙ ap (rowNumber (u .table) (slotOf (u .table) (s .table .next))) found
-            ∙ gives .success
+            -- the recovered row is the one that the writer made for the key
+            found : rowFor (telling u (honest st s a masks value)) ≡ rowOf (st .b) (st .columns) (a .digest) v
+            found =
+                honest-row
+                ∙ ap₂ (wanted st) (k .its-positions) (k .its-masks)
+                ∙ placed st (k .count) (k .rows) (k .allMasks) (k .positions) (k .targets) (k .held) (k .built) (k .elements) (k .i)
+                (k .below)
+                ∙ k .its-row
+
+            gives : Gives (u .table) (slotOf (u .table) (ticketOf st s a)) (rowOf (st .b) (st .columns) (a .digest) v) v
+            gives =
+                value-read (st .b) (st .columns) (st .columns) (a .digest) v (k .written) (w .digest) (k .digest-bytes) (k .value-bytes)
+                (u .table) (later-healthy s u a w .width) (later-healthy s u a w .columns) (slotOf (u .table) (ticketOf st s a))
+                (own .0)
+
+            number : replyNumber (telling u (honest st s a masks value)) ≡ 0
+            number = row-decides ∙ ap (rowNumber (u .table) (slotOf (u .table) (ticketOf st s a))) found ∙ gives .success
 
 pub demand : (st : Store) → Sound st → Demand st
 demand st sound = record {
   formed = λ s r. reached-healthy st sound s r .formed;
-  gone = λ s a r none.
-      let g = gone st s a (reached-healthy st sound s r) none in
-      (g .2, g .0, g .1, g .3);
+  gone = λ s e x brings none. (
+    gone-refused s x none (callsOf st) e brings,
+    λ r roomy. gone-ten s x none (callsOf st) e brings (reached-healthy st sound s r) (roomy .0) (roomy .1),
+  );
   own = own st sound;
   line = line st sound;
-  late = late st sound;
-  recovers = recovers st sound;
-  answers = answers st sound;
-  groups = λ slab es whole typed t h. grouped st slab es sound whole typed t h;
-  slots = λ s e r typed q ne. own-slot st s e (reached-healthy st sound s r) typed q ne;
+  late = λ s u a w none out masks value. late st sound s u a w out masks value none;
+  recovers = λ s u a p calm out masks value room roomy. recovers st sound s u a p calm masks value roomy out room;
+  answers = λ s u a p calm out masks value v room roomy. answers st sound s u a p calm masks value roomy out room v;
+  groups = λ slab es. grouped (callsOf st) (st .b) (st .columns) slab es (made st sound);
+  slots = λ s e r fits q free. does-others (does (callsOf st) s e fits) (reached-healthy st sound s r) q free .secret;
 }

@@ -4,7 +4,7 @@ use mathlib.Core.Bool.{Bool, true, false, cond}
 use Prim.Native.Nat.{ℕ, zero, suc, _+_, _-_, _*_, _^_, _≤_, _<_}
 use native.Mathlib.Nat.{zero-mul}
 use native.Mathlib.Omega.{arith}
-use lib.Dec.{ltb, ltb→lt, leb→le}
+use lib.Dec.{ltb, ltb→lt, lt→ltb, leb→le, le→leb}
 use lib.IntN.{ℤ, pos, negsuc, negℤ, subℕ, _+ℤ_, _*ℤ_}
 use lib.Signed.{_<ℤ_, _≤ℤ_}
 use borrow.Author.Tests.{ltb-true, ltb-false}
@@ -27,7 +27,7 @@ abbrev pub below : ℕ → (ℕ → ℕ) → (ℕ → ℕ) → ℕ
 below n e d = sum n (λ i. minus (e i) * d i)
 
 -- z is p less m
-abbrev Diff : ℤ → ℕ → ℕ → Type 0
+abbrev pub Diff : ℤ → ℕ → ℕ → Type 0
 Diff (pos k) p m = p ≡ k + m
 Diff (negsuc k) p m = p + suc k ≡ m
 
@@ -62,7 +62,7 @@ diff-mul w d l = go (ltb w (2 ^ 31)) refl
     go false h = neg (2 ^ 32 - w) (omega arith)
 
 -- the word and its part below 0 make its part above, modulo 2^32
-word-parts : (w : ℕ) → w < 2 ^ 32 → Cong (2 ^ 32) (w + minus w) (plus w)
+pub word-parts : (w : ℕ) → w < 2 ^ 32 → Cong (2 ^ 32) (w + minus w) (plus w)
 unfolding plus minus
 word-parts w l = go (ltb w (2 ^ 31)) refl
   where
@@ -75,11 +75,55 @@ pub record Small (h p m : ℕ) : Type 0 where
   pub low : m < p + h
   pub high : p ≤ m + h
 
-diff-small : (z : ℤ) (h p m : ℕ) → Diff z p m → negℤ (pos h) <ℤ z → z ≤ℤ pos h → Small h p m
-diff-small (pos k) zero p m e l r = let a = ltb→lt 0 k (l .lt) in let b = leb→le k 0 (r .le) in omega arith
-diff-small (pos k) (suc h) p m e l r = let b = leb→le k (suc h) (r .le) in omega arith
-diff-small (negsuc k) zero p m e l r = absurd (l .lt)
-diff-small (negsuc k) (suc h) p m e l r = let a = ltb→lt k h (l .lt) in omega arith
+-- what a bound below or above says of the parts, and what says it
+module _ (z : ℤ) (p m : ℕ) (d : Diff z p m) where
+  lower : (h : ℕ) → negℤ (pos h) <ℤ z → m < p + h
+  lower h l = by-sign h z d l
+    where
+      by-sign : (h : ℕ) (z : ℤ) → Diff z p m → negℤ (pos h) <ℤ z → m < p + h
+      by-sign zero (pos k) e l = let a = ltb→lt 0 k (l .lt) in omega arith
+      by-sign zero (negsuc k) e l = absurd (l .lt)
+      by-sign (suc h) (pos k) e l = omega arith
+      by-sign (suc h) (negsuc k) e l = let a = ltb→lt k h (l .lt) in omega arith
+
+  raise : (h : ℕ) → m < p + h → negℤ (pos h) <ℤ z
+  raise h l = by-sign h z d l
+    where
+      by-sign : (h : ℕ) (z : ℤ) → Diff z p m → m < p + h → negℤ (pos h) <ℤ z
+      by-sign zero (pos k) e l = record { lt = lt→ltb 0 k (omega arith) }
+      by-sign zero (negsuc k) e l = absurd (omega arith)
+      by-sign (suc h) (pos k) e l = record { lt = tt }
+      by-sign (suc h) (negsuc k) e l = record { lt = lt→ltb k h (omega arith) }
+
+  upper : (h : ℕ) → z ≤ℤ pos h → p ≤ m + h
+  upper h l = by-sign z d l
+    where
+      by-sign : (z : ℤ) → Diff z p m → z ≤ℤ pos h → p ≤ m + h
+      by-sign (pos k) e l = let a = leb→le k h (l .le) in omega arith
+      by-sign (negsuc k) e l = omega arith
+
+  limit : (h : ℕ) → p ≤ m + h → z ≤ℤ pos h
+  limit h l = by-sign z d l
+    where
+      by-sign : (z : ℤ) → Diff z p m → p ≤ m + h → z ≤ℤ pos h
+      by-sign (pos k) e l = record { le = le→leb k h (omega arith) }
+      by-sign (negsuc k) e l = record { le = tt }
+
+  -- quiet is small in its parts, and the other way round
+  pub quiet-parts : (b : ℕ) → Quiet b z → Small (2 ^ (31 - b)) p m
+  quiet-parts b q = record { low = lower (2 ^ (31 - b)) (q .above); high = upper (2 ^ (31 - b)) (q .most) }
+
+  pub parts-quiet : (b : ℕ) → Small (2 ^ (31 - b)) p m → Quiet b z
+  parts-quiet b s = record { above = raise (2 ^ (31 - b)) (s .low); most = limit (2 ^ (31 - b)) (s .high) }
+
+-- a word's noise has its parts
+pub word-diff : (w : ℕ) → Diff (signed w) (plus w) (minus w)
+unfolding signed plus minus
+word-diff w = go (ltb w (2 ^ 31))
+  where
+    go : (t : Bool) → Diff (cond t (pos w) (negℤ (pos (2 ^ 32 - w)))) (cond t w 0) (cond t 0 (2 ^ 32 - w))
+    go true = omega arith
+    go false = diff-neg (2 ^ 32 - w)
 
 -- Errors that are words.
 module _ (e d : ℕ → ℕ) where
@@ -95,7 +139,7 @@ module _ (e d : ℕ → ℕ) where
     -- a quiet noise is small in its parts
     pub quiet-small : (b : ℕ) → Quiet b (noise n e d) → Small (2 ^ (31 - b)) (above n e d) (below n e d)
     quiet-small b q =
-        diff-small (noise n e d) (2 ^ (31 - b)) (above n e d) (below n e d) (diff-sum n words) (q .above) (q .most)
+        quiet-parts (noise n e d) (above n e d) (below n e d) (diff-sum n words) b q
 
     -- the errors times the entries, as words, are the one part less the other
     pub noise-parts : Cong (2 ^ 32) (sum n (λ i. e i * d i) + below n e d) (above n e d)

@@ -1,56 +1,27 @@
 -- What an open that succeeds has written: R words, each a word, which are sA + e with Δ at the positions.
 use mathlib.Core.Path.{_≡_, refl, sym, ap, _∙_}
-use mathlib.Core.Bool.{Bool, true, false, not, cond, _||_}
-use mathlib.Core.List.{[], _∷_, _++_}
-use Prim.Native.Nat.{ℕ, _+_, _*_, _^_, _<_, _≤_}
+use mathlib.Core.Bool.{Bool, true, false, cond}
+use Prim.Native.Nat.{ℕ, _+_, _^_, _<_}
 use native.Mathlib.Nat.{mod-lt}
 use native.Mathlib.Omega.{arith}
-use lib.Dec.{ltb, eqb, lit<}
+use lib.Dec.{eqb, lit<}
 use lib.ListN.{length, getD, take}
 use borrow.Author.Tests.{eqb-true, ltb-true}
-use Rattle.laws.specs.Refusals.{_⇒_, outside}
 use Rattle.laws.specs.Search.{lowest}
-use Rattle.laws.proofs.Refusals.{neither, inside, written, Clear, all-clear}
+use Rattle.laws.proofs.Refusals.{written}
 use Rattle.laws.proofs.Lists.{length-build, getD-build}
 use Rattle.laws.proofs.Filling.{take-laid}
 use Rattle.laws.proofs.Below.{each-below}
 use Rattle.laws.proofs.Search.{lowest-holds, some-lowest}
-use Rattle.leaves.specs.Positions.{among, positionsBad}
-use Rattle.client.specs.Open.{Asked, shapeBad, openTests, wraps, noisy, noisyOf, marked, openNumber, openLeft}
+use Rattle.leaves.specs.Positions.{among}
+use Rattle.client.specs.Open.{Asked, noisy, noisyOf, marked, openNumber, openLeft}
 use Rattle.leaves.specs.Rounding.{delta}
+use Rattle.client.proofs.open.Answers.{Succeeded, succeeded}
 use Rattle.client.proofs.open.Marks.{no-wrap}
 
 module _ (a : Asked) (opened : openNumber a ≡ 0) where
-  abbrev six : Bool
-  six = wraps (a .table .b) (a .positions) (noisyOf a)
-
-  clear : Clear (openTests a ++ (six ⇒ 6 ∷ []))
-  unfolding openNumber
-  clear = all-clear (openTests a ++ (six ⇒ 6 ∷ [])) tt opened
-
-  pub well-placed : positionsBad (a .r) (a .positions) ≡ false
-  well-placed = clear .1 .1 .1 .0
-
-  unwrapped : six ≡ false
-  unwrapped = clear .1 .1 .1 .1 .1 .1 .1 .1 .0
-
-  -- 1 to 4,096 words
-  pub rows-in : (1 ≤ a .r) × (a .r ≤ 4096)
-  unfolding shapeBad
-  rows-in =
-      let dims = outside 1 2048 (a .n) || outside 1 4096 (a .r) in
-      let m = not (eqb (length (a .matrix)) (a .n * a .r)) in
-      let i = not (eqb (length (a .hint)) (a .n * a .table .columns)) in
-      let l = not (eqb (length (a .slab)) (64 * a .table .columns)) in
-      let s = not (eqb (length (a .secret)) (a .n)) in
-      let e = not (eqb (length (a .error)) (a .r)) in
-      let p = neither (dims || m || i || l || s || e) (ltb (length (a .query)) (a .r)) (clear .1 .0) in
-      let q = neither (dims || m || i || l || s) e (p .0) in
-      let u = neither (dims || m || i || l) s (q .0) in
-      let v = neither (dims || m || i) l (u .0) in
-      let w = neither (dims || m) i (v .0) in
-      let x = neither dims m (w .0) in
-      inside 1 4096 (a .r) (neither (outside 1 2048 (a .n)) (outside 1 4096 (a .r)) (x .0) .1)
+  shown : Succeeded a
+  shown = succeeded a opened
 
   length-noisy : length (noisyOf a) ≡ a .r
   unfolding noisy
@@ -82,7 +53,7 @@ module _ (a : Asked) (opened : openNumber a ≡ 0) where
           let s = lowest (length (a .positions)) p in
           let l = ltb-true s (length (a .positions)) (sym (some-lowest p (length (a .positions))) ∙ e) in
           let at = eqb-true (getD (a .positions) s 0) i (lowest-holds p (length (a .positions)) l) in
-          rw at at (no-wrap (a .table .b) (a .positions) (noisyOf a) unwrapped s l)
+          rw at at (no-wrap (a .table .b) (a .positions) (noisyOf a) (shown .unwrapped) s l)
       by false e = omega (arith, noisy-word i l)
 
   pub query-word : (i : ℕ) → getD (marked (a .table .b) (a .positions) (noisyOf a)) i 0 < 2 ^ 32

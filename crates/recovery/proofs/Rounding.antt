@@ -14,7 +14,7 @@ use Rattle.leaves.specs.Rounding.{delta, rounded}
 use Rattle.recovery.proofs.Noise.{Small}
 
 -- 1 where the remainder r exceeds half of the step
-abbrev carry : ℕ → ℕ → ℕ
+abbrev pub carry : ℕ → ℕ → ℕ
 carry h r = cond (ltb h r) 1 0
 
 not-lt-eq : (a b : ℕ) → ¬ (a < b) → ¬ (b < a) → a ≡ b
@@ -53,10 +53,10 @@ nearest-cong h B u S p m pos c s =
 
 module _ (b : ℕ) (most : b ≤ 31) where
   -- Δ is twice its half, and 2^b of it make a word
-  delta-half : delta b ≡ 2 * 2 ^ (31 - b)
+  pub delta-half : delta b ≡ 2 * 2 ^ (31 - b)
   delta-half = let e : 32 - b ≡ suc (31 - b) = omega arith in ap (λ (x : ℕ). 2 ^ x) e ∙ pow-succ' 2 (31 - b)
 
-  delta-word : 2 * 2 ^ (31 - b) * 2 ^ b ≡ 2 ^ 32
+  pub delta-word : 2 * 2 ^ (31 - b) * 2 ^ b ≡ 2 ^ 32
   delta-word =
       let e = pow-add 2 (31 - b) b in
       let f : 2 ^ (31 - b + b) ≡ 2 ^ 31 = ap (λ (x : ℕ). 2 ^ x) (sub-add-cancel most) in

@@ -2,17 +2,19 @@
 use mathlib.Core.Path.{_≡_}
 use Prim.Native.Nat.{ℕ, _*_, _<_, _≤_}
 use mathlib.Core.Bool.{true, false}
-use mathlib.Core.List.{List, [], _∷_}
+use mathlib.Core.List.{List}
 use lib.ListN.{length, getD, take}
 use Rattle.laws.specs.Lists.{row, laid}
-use Rattle.arith.specs.Codec.{rowOf, encodeNumber}
+use Rattle.arith.specs.Codec.{valueRoom, rowOf, encodeNumber}
 use Rattle.builder.specs.Database.{buildNumber, buildAfter}
 use Rattle.client.specs.Table.{malformed, pending, slotOf, digestAt}
-use Rattle.client.specs.Open.{openNumber, openLeft, errorOf, storedSecret}
-use Rattle.client.specs.Reply.{lentBad, rowFor, replyNumber, replyOf, replyValue}
+use Rattle.client.specs.Open.{errorOf, storedSecret}
+use Rattle.client.specs.Reply.{rowFor}
 use Rattle.client.specs.Lines.{frame}
-use Rattle.recovery.specs.Store.{Store, served, servedLine, Calm, wanted}
-use Rattle.recovery.specs.Run.{State, Ask, Tell, Event, opens, comes, asking, telling, replied, step, run, start, Typed, Grouped, touched}
+use Rattle.runs.specs.Run.{State, Ask, Tell, Event, opens, comes, asking, telling, readFrom, Brings, step, run, start, Fits, Typed}
+use Rattle.runs.specs.Said.{said, Refused}
+use Rattle.runs.specs.Groups.{Grouped, touched}
+use Rattle.recovery.specs.Store.{Store, callsOf, served, servedLine, Calm, wanted}
 
 -- "a fresh pending table of the same b and C", and "any sequence of opens, replies and discards" after it
 pub record Reached (st : Store) (s : State) : Type 0 where
@@ -20,36 +22,41 @@ pub record Reached (st : Store) (s : State) : Type 0 where
   pub events : List Event
   pub whole : length slab ≡ 64 * st .columns
   pub typed : Typed events
-  pub is : s ≡ run st (start st slab) events
+  pub is : s ≡ run (callsOf st) (start (st .b) (st .columns) slab) events
 
 -- an open that succeeds at s, and any events after it, up to u
 pub record Since (st : Store) (s : State) (a : Ask) (u : State) : Type 0 where
   pub reached : Reached st s
   pub digest : length (a .digest) ≡ 32
-  pub opened : openNumber (asking st s a) ≡ 0
+  pub opened : said (callsOf st) s (opens a) .number ≡ 0
   pub later : List Event
   pub typed : Typed later
-  pub is : u ≡ run st (step st s (opens a)) later
+  pub is : u ≡ run (callsOf st) (step (callsOf st) s (opens a)) later
 
--- and its ticket is still pending
+-- what the terminal has of the open: its ticket, and the R words of its query
+abbrev pub ticketOf : Store → State → Ask → ℕ
+ticketOf st s a = said (callsOf st) s (opens a) .ticket
+
+abbrev pub queryOf : Store → State → Ask → List ℕ
+queryOf st s a = take (st .r) (said (callsOf st) s (opens a) .query)
+
+-- and the ticket is still pending
 pub record Waiting (st : Store) (s : State) (a : Ask) (u : State) : Type 0 where
   pub since : Since st s a u
-  pub still : pending (u .table) (s .table .next) ≡ true
+  pub still : pending (u .table) (ticketOf st s a) ≡ true
 
--- the R words of its query, the line that carries them, and what an honest server's line for it tells
-abbrev pub queryOf : Store → State → Ask → List ℕ
-queryOf st s a = take (st .r) (openLeft (asking st s a) .query)
-
+-- the line that an honest server answers to the query line of that ticket and these words
 abbrev pub lineOf : Store → State → Ask → List ℕ
-lineOf st s a = servedLine st (frame 1 (s .table .next) (queryOf st s a))
+lineOf st s a = servedLine st (frame 1 (ticketOf st s a) (queryOf st s a))
 
+-- what that line has to say: the open's ticket, and the server's words for its query
 abbrev pub honest : Store → State → Ask → (masks value : List ℕ) → Tell
 honest st s a masks value =
-    record { ticket = s .table .next; response = served st (queryOf st s a); masks = masks; value = value }
+    record { ticket = ticketOf st s a; response = served st (queryOf st s a); masks = masks; value = value }
 
--- "with buffers of the right size"
-abbrev pub Roomy : State → Tell → Type 0
-Roomy u a = lentBad (u .table) (length (u .slab)) (length (a .masks)) (length (a .value)) ≡ false
+-- "with buffers of the right size": C masks, and room for the longest value
+abbrev pub Roomy : Store → (masks value : List ℕ) → Type 0
+Roomy st masks value = (length masks ≡ st .columns) × (valueRoom (st .b) (st .columns) ≤ length value)
 
 -- "a key placed by the builder with our row writer's row, both at this b and C, queried with its own positions, digest and
 -- masks": key i of those that the builder was given, whose stored bytes are v
@@ -75,40 +82,39 @@ pub record Placed (st : Store) (a : Ask) (masks v : List ℕ) : Type 0 where
 pub record Demand (st : Store) : Type 0 where
   -- no call of a run finds its table malformed: 18 is never given
   pub formed : (s : State) → Reached st s → malformed (s .table) ≡ false
-  -- "a reply to a ticket not pending is refused and changes nothing": the number is 10 where the buffers are of the right size
-  pub gone : (s : State) (a : Tell) → Reached st s → pending (s .table) (a .ticket) ≡ false
-      → (0 < replyNumber (telling s a))
-      × (replied s a ≡ s)
-      × (replyValue (telling s a) ≡ a .value)
-      × (Roomy s a → replyNumber (telling s a) ≡ 10)
+  -- "a reply to a ticket not pending is refused and changes nothing", whatever the table and the slab, and whether it came as a
+  -- line or without one; in a run, with buffers of the right size, by 10
+  pub gone : (s : State) (e : Event) (x : Tell) → Brings e x → pending (s .table) (x .ticket) ≡ false
+      → Refused (callsOf st) s e (x .value)
+      × (Reached st s → Roomy st (x .masks) (x .value) → said (callsOf st) s e .number ≡ 10)
   -- a late line is never decoded with a newer query's secret: while a ticket is pending, its slot has its own open's digest and
   -- secret
   pub own : (s u : State) (a : Ask) → Waiting st s a u
-      → (digestAt (u .table) (slotOf (u .table) (s .table .next)) ≡ a .digest)
-      × (row (st .columns) (u .slab) (slotOf (u .table) (s .table .next)) ≡ storedSecret (asking st s a))
-  -- the honest server's line is read as its ticket and its words, whenever it comes; and where the ticket is not pending, it is
-  -- refused with 10 and changes nothing
+      → (digestAt (u .table) (slotOf (u .table) (ticketOf st s a)) ≡ a .digest)
+      × (row (st .columns) (u .slab) (slotOf (u .table) (ticketOf st s a)) ≡ storedSecret (asking (callsOf st) s a))
+  -- The honest server's line comes, and there is room for its words: it is read as its ticket and its words, whenever that is.
+  -- Where the ticket is no longer pending, it is refused and changes nothing, room or not.
   pub line : (s u : State) (a : Ask) → Since st s a u → (out masks value : List ℕ) → st .columns ≤ length out
-      → step st u (comes (lineOf st s a) out masks value) ≡ replied u (honest st s a masks value)
-  pub late : (s u : State) (a : Ask) → Since st s a u → pending (u .table) (s .table .next) ≡ false
-      → (out masks value : List ℕ) → st .columns ≤ length out → Roomy u (honest st s a masks value)
-      → (replyNumber (telling u (honest st s a masks value)) ≡ 10)
-      × (step st u (comes (lineOf st s a) out masks value) ≡ u)
-      × (replyValue (telling u (honest st s a masks value)) ≡ value)
+      → Brings (comes (lineOf st s a) out masks value) (honest st s a masks value)
+  pub late : (s u : State) (a : Ask) → Since st s a u → pending (u .table) (ticketOf st s a) ≡ false
+      → (out masks value : List ℕ)
+      → Refused (callsOf st) u (comes (lineOf st s a) out masks value) value
+      × (st .columns ≤ length out → Roomy st masks value → said (callsOf st) u (comes (lineOf st s a) out masks value) .number ≡ 10)
   -- "if in every column the sum of error times entry is above -2^(31-b) and at most 2^(31-b), the recovered row is the sum of
-  -- the queried rows plus the masks, modulo 2^b"
-  pub recovers : (s u : State) (a : Ask) → Waiting st s a u → Calm st (errorOf (asking st s a))
-      → (masks value : List ℕ) → Roomy u (honest st s a masks value)
-      → rowFor (telling u (honest st s a masks value)) ≡ wanted st (a .positions) masks
-  -- "the answer is that key's stored bytes"
-  pub answers : (s u : State) (a : Ask) → Waiting st s a u → Calm st (errorOf (asking st s a))
-      → (masks value v : List ℕ) → Roomy u (honest st s a masks value) → Placed st a masks v
-      → (replyNumber (telling u (honest st s a masks value)) ≡ 0)
-      × (replyOf (telling u (honest st s a masks value)) .length ≡ length v)
-      × (replyValue (telling u (honest st s a masks value)) ≡ laid v value)
+  -- the queried rows plus the masks, modulo 2^b": the row that the client makes of what it has read in that line
+  pub recovers : (s u : State) (a : Ask) → Waiting st s a u → Calm st (errorOf (asking (callsOf st) s a))
+      → (out masks value : List ℕ) → st .columns ≤ length out → Roomy st masks value
+      → rowFor (telling u (readFrom (lineOf st s a) out masks value)) ≡ wanted st (a .positions) masks
+  -- "the answer is that key's stored bytes": the line comes, and the terminal is told 0 and the value's length, and has the
+  -- value at the start of its buffer, whose rest stays
+  pub answers : (s u : State) (a : Ask) → Waiting st s a u → Calm st (errorOf (asking (callsOf st) s a))
+      → (out masks value v : List ℕ) → st .columns ≤ length out → Roomy st masks value → Placed st a masks v
+      → (said (callsOf st) u (comes (lineOf st s a) out masks value) .number ≡ 0)
+      × (said (callsOf st) u (comes (lineOf st s a) out masks value) .length ≡ length v)
+      × (said (callsOf st) u (comes (lineOf st s a) out masks value) .value ≡ laid v value)
   -- "Opened tickets are those answered, closed by a refusal, discarded or pending, each in one group."
   pub groups : (slab : List ℕ) (es : List Event) → length slab ≡ 64 * st .columns → Typed es → (t : ℕ) → 0 < t
-      → Grouped st (start st slab) es t
-  -- "Nobody but these calls writes the lent secrets", and each only its own slot
-  pub slots : (s : State) (e : Event) → Reached st s → Typed (e ∷ []) → (q : ℕ) → ¬ (q ≡ touched st s e)
-      → row (st .columns) (step st s e .slab) q ≡ row (st .columns) (s .slab) q
+      → Grouped (callsOf st) (start (st .b) (st .columns) slab) es t
+  -- "Nobody but these calls writes the lent secrets", and each only the slots that it opens or closes
+  pub slots : (s : State) (e : Event) → Reached st s → Fits e → (q : ℕ) → touched (callsOf st) s e q ≡ false
+      → row (st .columns) (step (callsOf st) s e .slab) q ≡ row (st .columns) (s .slab) q

@@ -12,6 +12,7 @@ use Rattle.leaves.specs.Limits.{elementsBad}
 use Rattle.plain.specs.Matrix.{times, cell}
 use Rattle.builder.specs.Database.{rowsSum}
 use Rattle.client.specs.Lines.{frame, lineTicket, lineWords}
+use Rattle.runs.specs.Run.{Lent}
 use Rattle.recovery.specs.Noise.{noise, Quiet}
 
 pub record Store : Type 0 where
@@ -32,6 +33,10 @@ pub record Sound (st : Store) : Type 0 where
 -- AD modulo 2^32
 abbrev pub hintOf : Store → List ℕ
 hintOf st = times (st .n) (st .r) (st .columns) (st .matrix) (st .elements)
+
+-- what every call is lent of it
+abbrev pub callsOf : Store → Lent
+callsOf st = record { n = st .n; r = st .r; matrix = st .matrix; hint = hintOf st }
 
 -- The honest server. To a query it answers qD modulo 2^32, and to a query line the response line with the same ticket. It is
 -- said here and nowhere else: when the host lands (document 02, 6/13), its contract takes this place.

@@ -1,13 +1,26 @@
--- Two views that `view`'s contract allows for one input coincide. What `multiply`, `times` and `unpack` ensure are arith's own
--- definitions at the view's fields, so arith's theorems settle these: its proofs/Settled.antt,
--- `row-vector-x-compressed-transposed-matrix-settled` and `row-wise-decompress-settled`.
-use mathlib.Core.List.{List}
-use Prim.Native.Nat.{ℕ}
-use denote.Ref.{RefT}
-use Rattle.laws.specs.Refusals.{OneOutcome}
-use Rattle.laws.proofs.Refusals.{one-answer}
-use Rattle.view.specs.declared.packed.PackedMatrix.{PackedMatrix}
-use Rattle.view.specs.Packed.{viewed}
+-- Two results that a function's own contract allows for one input coincide, the answer and each lent buffer alike. Each function is
+-- a walk by hand; `times`, which takes no view, has its contract's `Reads` nonetheless.
+use mathlib.Core.Path.{refl, _∙⁻¹_}
+use base.Logic.{id⊢}
+use Rattle.laws.specs.Contracts.{AllowsOne, WalkAllowsOne}
+use Rattle.laws.proofs.Contracts.{_&_, skip, from-facts, both-facts}
+use Rattle.arith.proofs.Settled.{packed-one}
+use Rattle.view.proofs.packed.view
+use Rattle.view.proofs.packed.multiply
+use Rattle.view.proofs.packed.times
+use Rattle.view.proofs.packed.unpack
 
-pub view-settled : (b rows columns : ℕ) (words : RefT (List ℕ)) → OneOutcome (λ (r : PackedMatrix). r) (viewed b rows columns words)
-view-settled b rows columns words = one-answer _
+pub view-settled : (M : Type 1) → WalkAllowsOne M view.ended view.clauses
+view-settled M 𝓤 H A mem run κs a g x y v w = from-facts 𝓤 (id⊢ 𝓤 _) (id⊢ 𝓤 _) (λ p q. (p ∙⁻¹ q, refl))
+
+pub multiply-settled : (M : Type 1) → WalkAllowsOne M multiply.ended multiply.clauses
+multiply-settled M 𝓤 H A mem run κs a g x y v w = from-facts 𝓤 (both-facts 𝓤) (both-facts 𝓤)
+    (λ p q. (packed-one (p .0 ∙⁻¹ q .0), skip 2 (p .1 ∙⁻¹ q .1 & refl)))
+
+pub times-settled : AllowsOne times.Kinds.ps times.Kinds.r times.Reads.Post
+times-settled κs a x y v w p q =
+    (packed-one (p .0 ∙⁻¹ q .0), skip 5 (p .1 ∙⁻¹ q .1 & refl))
+
+pub unpack-settled : (M : Type 1) → WalkAllowsOne M unpack.ended unpack.clauses
+unpack-settled M 𝓤 H A mem run κs a g x y v w = from-facts 𝓤 (both-facts 𝓤) (both-facts 𝓤)
+    (λ p q. (packed-one (p .0 ∙⁻¹ q .0), skip 1 (p .1 ∙⁻¹ q .1 & refl)))

@@ -1,9 +1,10 @@
 -- The refusals of an open, in 01's order: those of its first step, and then 6. What a refusal and what success say.
-use mathlib.Core.Path.{_≡_, refl, sym}
+use mathlib.Core.Path.{_≡_, refl, sym, _∙_}
 use mathlib.Core.Bool.{true, false}
 use mathlib.Core.List.{List, [], _∷_}
 use Prim.Native.Nat.{ℕ, suc, zero, _*_, _<_}
 use native.Mathlib.Nat.{not-suc-le-zero}
+use native.Mathlib.Decide.{decLt}
 use native.Mathlib.Omega.{arith}
 use lib.Dec.{eqb}
 use lib.ListN.{length, replicate}
@@ -12,7 +13,7 @@ use types.Run.{OneOf, miss}
 use denote.Enum.Declared.{tagOf}
 use Rattle.laws.specs.Refusals.{Test, _⇒_, first, after, outside}
 use Rattle.laws.specs.Lists.{splice, laid}
-use Rattle.laws.proofs.Refusals.{refused-before, Clear, all-clear, clear-before, not-answered}
+use Rattle.laws.proofs.Refusals.{passed, refused-before, Clear, all-clear, clear-before, not-answered}
 use Rattle.leaves.specs.Positions.{positionsBad}
 use Rattle.client.specs.declared.table.Table.{Table}
 use Rattle.client.specs.declared.open.Opening.{Opening}
@@ -86,13 +87,16 @@ module _ (a : Asked) where
   unfolding early
   never-wraps = not-answered 5 (openTests a) (refl, (refl, (refl, (refl, (refl, (refl, (refl, (refl, tt))))))))
 
--- the first step was passed
+-- The first step was passed. Whoever wants one of its tests takes it from here by name: 01's order stands in `ready` alone.
 pub record Ready (a : Asked) : Type 0 where
+  pub well : malformed (a .table) ≡ false
   pub table : Limited (a .table)
   pub shape : Shaped (a .table .columns) (a .n) (a .r) (length (a .slab)) (length (a .matrix)) (length (a .hint))
       (length (a .secret)) (length (a .error)) (length (a .query))
   pub interval : outside 1 1431655765 (a .interval) ≡ false
   pub places : positionsBad (a .r) (a .positions) ≡ false
+  pub unheld : digestPending (a .table) (a .digest) ≡ false
+  pub unfilled : full (a .table) ≡ false
   pub free : slotOf (a .table) 0 < 64
   pub next : ¬ (a .table .next ≡ 4294967295)
   pub enough : eitherShort (a .interval) (a .n) (a .r) (a .words) ≡ false
@@ -102,14 +106,33 @@ ready a e =
     let c = no-test a e in
     let d = c .1 .1 .1 .1 .1 in
     record {
+      well = c .0;
       table = limited (a .table) (c .0);
       shape = shaped _ _ _ _ _ _ _ _ _ (c .1 .0);
       interval = c .1 .1 .0;
       places = c .1 .1 .1 .0;
+      unheld = c .1 .1 .1 .1 .0;
+      unfilled = d .0;
       free = slot-free (a .table) (d .0) .0;
       next = eqb-false (a .table .next) 4294967295 (d .1 .0);
       enough = d .1 .1 .0;
     }
+
+-- success: the first step was passed, and no entry wraps
+pub record Succeeded (a : Asked) : Type 0 where
+  pub ready : Ready a
+  pub unwrapped : wraps (a .table .b) (a .positions) (noisyOf a) ≡ false
+
+pub succeeded : (a : Asked) → openNumber a ≡ 0 → Succeeded a
+succeeded a e =
+    elim (decLt 0 (early a)) [
+      | yes h ↦ absurd (let f = refused-early a h in omega arith)
+      | no g ↦ let none : early a ≡ 0 = omega arith in
+          record {
+            ready = ready a none;
+            unwrapped = passed (wraps (a .table .b) (a .positions) (noisyOf a)) 5 [] (sym (passed-early a none) ∙ e) .0;
+          }
+    ]
 
 -- a refusal of the first step: nothing is read, and all stays as it was
 module _ (a : Asked) (h : 0 < early a) where

@@ -51,6 +51,7 @@ module _ (t : Table) where
 pub record Shaped (columns n r slab matrix hint secret error query : ℕ) : Type 0 where
   pub n-least : 1 ≤ n
   pub n-most : n ≤ 2048
+  pub r-least : 1 ≤ r
   pub r-most : r ≤ 4096
   pub matrix-whole : matrix ≡ n * r
   pub hint-whole : hint ≡ n * columns
@@ -82,6 +83,7 @@ shaped columns n r slab matrix hint secret error query h =
     record {
       n-least = inside 1 2048 n (y .0) .0;
       n-most = inside 1 2048 n (y .0) .1;
+      r-least = inside 1 4096 r (y .1) .0;
       r-most = inside 1 4096 r (y .1) .1;
       matrix-whole = same matrix (n * r) (x .1);
       hint-whole = same hint (n * columns) (w .1);
