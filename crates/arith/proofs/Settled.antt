@@ -56,7 +56,10 @@ abbrev sampledSaid : Sampled → ℕ × ℕ
 sampledSaid r = (sampledNumber r, sampledRead r)
 
 abbrev sampledOf : ℕ × ℕ → Sampled
-sampledOf p = cond (eqb (p .0) 0) (sampled.Read (p .1)) (cond (eqb (p .0) 2) sampled.Shape (cond (eqb (p .0) 4) sampled.Interval sampled.Short))
+sampledOf p =
+    cond (eqb (p .0) 0) (sampled.Read (p .1))
+    (cond (eqb (p .0) 2) sampled.Shape
+    (cond (eqb (p .0) 4) sampled.Interval sampled.Short))
 
 sampled-back : (x : Sampled) → sampledOf (sampledSaid x) ≡ x
 sampled-back (sampled.Read n) = refl
@@ -99,7 +102,11 @@ abbrev decodedSaid : Decoded → ℕ × ℕ
 decodedSaid r = (decodedNumber r, decodedLength r)
 
 abbrev decodedOf : ℕ × ℕ → Decoded
-decodedOf p = cond (eqb (p .0) 0) (decoded.Value (p .1)) (cond (eqb (p .0) 1) decoded.Width (cond (eqb (p .0) 2) decoded.Shape (cond (eqb (p .0) 17) decoded.Element decoded.Marker)))
+decodedOf p =
+    cond (eqb (p .0) 0) (decoded.Value (p .1))
+    (cond (eqb (p .0) 1) decoded.Width
+    (cond (eqb (p .0) 2) decoded.Shape
+    (cond (eqb (p .0) 17) decoded.Element decoded.Marker)))
 
 decoded-back : (x : Decoded) → decodedOf (decodedSaid x) ≡ x
 decoded-back (decoded.Value n) = refl

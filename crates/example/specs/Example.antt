@@ -60,20 +60,21 @@ before = start 14 20 (replicate 1280 7)
 abbrev pub opening : List Event
 opening = opens (ask 3) ∷ discards 1 ∷ []
 
+-- when ticket 2 is opened
+abbrev pub then : State
+then = run calls before opening
+
 -- the line of ticket 1, and that of ticket 2
 abbrev pub lineOne : List ℕ
 lineOne = lineOf store before (ask 3)
 
 abbrev pub lineTwo : List ℕ
-lineTwo = lineOf store (run calls before opening) (ask 3)
+lineTwo = lineOf store then (ask 3)
 
 abbrev pub arriving : List ℕ → Event
 arriving line = comes line (replicate 20 7) masks (7 ∷ 7 ∷ 7 ∷ [])
 
--- when ticket 2 is opened, and when its line comes
-abbrev pub then : State
-then = run calls before opening
-
+-- when the line of ticket 2 comes
 abbrev pub later : State
 later = run calls (step calls then (opens (ask 3))) (arriving lineOne ∷ [])
 

@@ -31,8 +31,8 @@ module _ {n : ℕ} (ps : List (PK n)) (r : RK n) (Post : Out n ps r) where
   abbrev pub AllowsOne : Type 0
   AllowsOne = TellsOne (λ κs x. x)
 
--- The same where the function is a walk by hand. No `Reads` is made of its contract, which is an assertion of the logic: its
--- `clauses`. Where two results are both asserted, that they coincide is a fact.
+-- The same where no `Reads` is made of a contract, as of a function that takes or returns the packed view. It is an assertion of
+-- the logic then: its `clauses`. Where two results are both asserted, that they coincide is a fact.
 module _ (M : Type 1) (T : Ended)
     (clauses : (𝓤 : URA M) (H : Heap 𝓤) → Atoms 𝓤 → (Memory → SProp 𝓤) → (Routine → Fun 𝓤) → Clauses 𝓤 T) where
   abbrev pub WalkAllowsOne : Type 2

@@ -1,4 +1,5 @@
--- Definitions that the contracts of every crate cite. Laws about them stand in proofs/.
+-- Definitions that the contracts of every crate cite, and (Contracts) that a contract allows one result. Laws about them stand
+-- in proofs/.
 pub mod Contracts
 pub mod Refusals
 pub mod Lists

@@ -11,7 +11,7 @@ use Rattle.client.specs.Lines.{digit, hex, frame, digitValue, unhex, lineWords}
 use Rattle.recovery.specs.Noise.{signed, Quiet}
 use Rattle.recovery.specs.Store.{Store, served, servedLine, wanted}
 
--- b 10, R 2, C 2: D has the rows [1 2] and [3 4]
+-- b 10, R 2, C 2: D has the rows [1 2] and [3 4]. C is too small for a table, which these definitions do not ask.
 abbrev small : Store
 small = record { b = 10; n = 1; r = 2; columns = 2; matrix = 1 ∷ 1 ∷ []; elements = 1 ∷ 2 ∷ 3 ∷ 4 ∷ [] }
 
@@ -30,7 +30,7 @@ unfolding build sum
 sum-and-masks = refl
 
 -- At the ties of 01's worked numbers (8, 9 and 11) a noise keeps its bound exactly where its word rounds to 0: 2^21 does and one
--- more does not, -2^21 does not and one more does. Bound.antt has it for every width and word.
+-- more does not, -2^21 does not and one more does. Bound.antt has it for every width from 4 to 14 and every word.
 pub ties : (Quiet 10 (signed 2097152) × (rounded 10 2097152 ≡ 0))
     × (¬ Quiet 10 (signed 2097153) × (rounded 10 2097153 ≡ 1))
     × (¬ Quiet 10 (signed 4292870144) × (rounded 10 4292870144 ≡ 1023))

@@ -1,4 +1,5 @@
--- The bound of demand 3 is the right one: a word is a quiet noise exactly where it rounds to 0, for every width.
+-- The bound of demand 3 is the right one: a word is a quiet noise exactly where it rounds to 0, for every width from
+-- 4 to 14.
 use mathlib.Core.Path.{_≡_, sym, _∙_}
 use mathlib.Core.Bool.{false}
 use mathlib.Core.Logic.{_⊎_, inl, inr}

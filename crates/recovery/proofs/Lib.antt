@@ -1,4 +1,5 @@
--- Demand 3, and the laws of a store's arithmetic that it takes. Those of runs stand in the crate `runs`.
+-- Demand 3, the laws of a store's arithmetic that it takes, and what holds its definitions to the request (Anchors, Bound). The
+-- laws of runs stand in the crate `runs`.
 pub mod Anchors
 pub mod Noise
 pub mod Rounding

@@ -67,7 +67,8 @@ pub grouped : (l : Lent) (b columns : ℕ) (slab : List ℕ) (es : List Event) �
 grouped l b columns slab es made whole typed t pos =
     let h = start-healthy b columns slab made whole in
     let does = does-all l (start b columns slab) es typed in
-    let next : start b columns slab .table .next ≡ 1 = rw (← written (freshNumber b columns) (freshTable b columns 1) (freshTable 0 0 0) made) refl in
+    let next : start b columns slab .table .next ≡ 1 =
+    rw (← written (freshNumber b columns) (freshTable b columns 1) (freshTable 0 0 0) made) refl in
     record {
       once = omega (arith, does-range t does, ap one (le-ltb t (start b columns slab .table .next) (omega arith)));
       groups = omega (arith, does-groups t h does, ap one (fresh-table-pending b columns t));

@@ -21,7 +21,7 @@ use Rattle.client.proofs.table.Formed.{fresh-formed, taken-formed, closed-forme
 use Rattle.runs.specs.Run.{Lent, State, Event, asking, step, run, start, Fits, Typed}
 use Rattle.runs.proofs.Steps.{Does, still, takes, closes, then, does, does-all}
 
--- a state of this b and C that a run can reach
+-- what holds of every state of this b and C that a run reaches
 pub record Healthy (b c : ℕ) (s : State) : Type 0 where
   pub sized : Sized (s .table)
   pub formed : malformed (s .table) ≡ false
@@ -31,7 +31,8 @@ pub record Healthy (b c : ℕ) (s : State) : Type 0 where
   pub next : s .table .next ≤ 4294967295
 
 module _ (b columns : ℕ) where
-  pub start-healthy : (slab : List ℕ) → freshNumber b columns ≡ 0 → length slab ≡ 64 * columns → Healthy b columns (start b columns slab)
+  pub start-healthy : (slab : List ℕ) → freshNumber b columns ≡ 0 → length slab ≡ 64 * columns
+      → Healthy b columns (start b columns slab)
   start-healthy slab made whole =
       rw (← written (freshNumber b columns) (freshTable b columns 1) (freshTable 0 0 0) made) record {
         sized = fresh-sized b columns 1;
@@ -68,7 +69,8 @@ module _ {b columns : ℕ} (s : State) (h : Healthy b columns s) (q : ℕ) (belo
   filled ys e = length-splice (q * s .table .columns) ys (s .slab) (omega (arith, slot-fits)) ∙ h .slab
 
 module _ {l : Lent} {b columns : ℕ} where
-  pub does-healthy : {s u : State} {o a f d : ℕ → ℕ} {p : ℕ → Bool} → Does l s u o a f d p → Healthy b columns s → Healthy b columns u
+  pub does-healthy : {s u : State} {o a f d : ℕ → ℕ} {p : ℕ → Bool} → Does l s u o a f d p → Healthy b columns s
+      → Healthy b columns u
   does-healthy still h = h
   does-healthy (takes {s} a whole ready) h = record {
     sized = taken-sized (s .table) (slotOf (s .table) 0) (a .digest) (ready .free) whole (h .sized);

@@ -13,7 +13,6 @@ use Rattle.client.specs.Table.{numberAt, slotOf}
 use Rattle.client.specs.Open.{storedSecret}
 use Rattle.client.proofs.table.Slots.{Kept, slot-pending, number-here, taken-others, closed-others}
 use Rattle.runs.specs.Run.{Lent, State, asking}
-use Rattle.runs.specs.Groups.{one}
 use Rattle.runs.proofs.Steps.{Does, still, takes, closes, then}
 use Rattle.runs.proofs.Healthy.{Healthy, length-stored, slot-fits, does-healthy}
 

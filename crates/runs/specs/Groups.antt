@@ -36,13 +36,14 @@ repliedBy these l s (comes line out masks value) t =
     after (readNumber 2 line (length out)) (repliedOn these s (readFrom line out masks value) t) 0
 repliedBy these l s (discards ticket) t = 0
 
--- answers it; closes it by a refusal; discards it
+-- the numbers that answer a ticket, and those that close it by a refusal
 abbrev pub answering : ℕ → Bool
 answering n = eqb n 0
 
 abbrev pub failing : ℕ → Bool
 failing n = eqb n 13 || eqb n 14
 
+-- how often an event answers ticket t, closes it by a refusal, discards it
 abbrev pub answeredBy : Lent → State → Event → ℕ → ℕ
 answeredBy = repliedBy answering
 

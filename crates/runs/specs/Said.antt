@@ -1,4 +1,5 @@
--- What an event of a run is answered: all that the terminal is told, and what each buffer that it lent to the event holds then.
+-- What an event of a run is answered: all that the terminal is told, and what each buffer that it lent to the event holds then,
+-- but for the slab, which is in the state.
 use mathlib.Core.Path.{_≡_}
 use Prim.Native.Nat.{ℕ, _<_}
 use mathlib.Core.List.{List, []}
@@ -65,7 +66,8 @@ said l s (replies a) = record {
 }
 -- the reader's number where it refuses the line, and then nothing is replied to
 said l s (comes line out masks value) = record {
-  number = after (readNumber 2 line (length out)) (replyOf (telling s (readFrom line out masks value)) .number) (readNumber 2 line (length out));
+  number = after (readNumber 2 line (length out)) (replyOf (telling s (readFrom line out masks value)) .number)
+      (readNumber 2 line (length out));
   ticket = readTicket 2 line (length out);
   count = readColumns 2 line (length out);
   length = after (readNumber 2 line (length out)) (replyOf (telling s (readFrom line out masks value)) .length) 0;

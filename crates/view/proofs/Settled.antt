@@ -1,5 +1,5 @@
--- Two results that a function's own contract allows for one input coincide, the answer and each lent buffer alike. Each function is
--- a walk by hand; `times`, which takes no view, has its contract's `Reads` nonetheless.
+-- Two results that a function's own contract allows for one input coincide, the answer and each lent buffer alike. Each function
+-- is a walk by hand; `times`, which takes no view, has its contract's `Reads` nonetheless.
 use mathlib.Core.Path.{refl, _∙⁻¹_}
 use base.Logic.{id⊢}
 use Rattle.laws.specs.Contracts.{AllowsOne, WalkAllowsOne}

@@ -87,9 +87,8 @@ module _ (a : Asked) where
   unfolding early
   never-wraps = not-answered 5 (openTests a) (refl, (refl, (refl, (refl, (refl, (refl, (refl, (refl, tt))))))))
 
--- The first step was passed. Whoever wants one of its tests takes it from here by name: 01's order stands in `ready` alone.
+-- The first step was passed. Whoever wants one of its tests takes it from here by name, and counts no places.
 pub record Ready (a : Asked) : Type 0 where
-  pub well : malformed (a .table) ≡ false
   pub table : Limited (a .table)
   pub shape : Shaped (a .table .columns) (a .n) (a .r) (length (a .slab)) (length (a .matrix)) (length (a .hint))
       (length (a .secret)) (length (a .error)) (length (a .query))
@@ -106,7 +105,6 @@ ready a e =
     let c = no-test a e in
     let d = c .1 .1 .1 .1 .1 in
     record {
-      well = c .0;
       table = limited (a .table) (c .0);
       shape = shaped _ _ _ _ _ _ _ _ _ (c .1 .0);
       interval = c .1 .1 .0;
