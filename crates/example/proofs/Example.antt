@@ -97,5 +97,5 @@ calm = record {
 -- and so the demand says what the run has shown: the line of ticket 2 comes, and the key's bytes are in the terminal's buffer
 pub bytes-back : said calls later (arriving lineTwo) .value ≡ laid value (7 ∷ 7 ∷ 7 ∷ [])
 bytes-back =
-    demand store (shown .sound) .answers then later (ask 3) (shown .waits) calm (replicate 20 7) masks (7 ∷ 7 ∷ 7 ∷ []) value
+    demand store (shown .sound) .delivers then later (ask 3) (shown .waits) calm (replicate 20 7) masks (7 ∷ 7 ∷ 7 ∷ []) value
     (omega arith) (refl, omega arith) (shown .key-placed) .2

@@ -5,18 +5,19 @@ use mathlib.Core.List.{List}
 use Prim.Native.Nat.{ℕ, _^_, _<_, _≤_}
 use native.Mathlib.Decide.{decLt}
 use native.Mathlib.Omega.{arith}
-use lib.ListN.{length, getD}
+use lib.ListN.{length, getD, take}
 use borrow.Author.Tests.{eq-eqb}
 use Rattle.laws.specs.Lists.{row, laid}
+use Rattle.laws.specs.Refusals.{after}
 use Rattle.laws.proofs.Refusals.{written}
 use Rattle.plain.proofs.matrix.Cells.{length-product}
 use Rattle.arith.specs.Codec.{rowOf, valueLength, valueOf}
 use Rattle.client.specs.Table.{pending, slotOf, digestAt, freshNumber}
 use Rattle.client.specs.Open.{Asked, errorOf, storedSecret, secretOf, noisy, marked}
 use Rattle.client.specs.Reply.{slotFor, rowFor, rowNumber, replyNumber}
-use Rattle.client.specs.Lines.{lineTicket, readNumber, readTicket}
+use Rattle.client.specs.Lines.{lineLength, lineTicket, readNumber, readTicket, writeNumber, writeLength, writeAfter}
 use Rattle.client.proofs.open.Answers.{Ready, succeeded}
-use Rattle.runs.specs.Run.{Lent, State, Ask, opens, comes, asking, telling, readFrom, Brings, step, start}
+use Rattle.runs.specs.Run.{Lent, State, Ask, Event, opens, comes, asking, telling, readFrom, Brings, step, start}
 use Rattle.runs.specs.Said.{said, Refused}
 use Rattle.runs.proofs.Steps.{does}
 use Rattle.runs.proofs.Healthy.{Healthy, start-healthy, step-healthy, run-healthy, lent-good}
@@ -24,12 +25,12 @@ use Rattle.runs.proofs.Touched.{does-others}
 use Rattle.runs.proofs.Groups.{grouped}
 use Rattle.runs.proofs.Held.{held, next-ticket}
 use Rattle.runs.proofs.Brings.{Told, told, unread}
-use Rattle.runs.proofs.Gone.{gone-refused, gone-ten}
+use Rattle.runs.proofs.Gone.{gone-refused, gone-ten, ten-only}
 use Rattle.recovery.specs.Store.{Store, Sound, callsOf, served, Calm, wanted}
-use Rattle.recovery.specs.Demand.{Reached, Since, Waiting, ticketOf, queryOf, lineOf, honest, Roomy, Placed, Demand}
-use Rattle.recovery.proofs.Errors.{error-word}
+use Rattle.recovery.specs.Demand.{Reached, Since, Waiting, ticketOf, queryOf, queryLine, lineOf, honest, Roomy, Placed, Demand}
+use Rattle.recovery.proofs.Errors.{error-ternary, error-word}
 use Rattle.recovery.proofs.Query.{length-marked, query-is, query-word}
-use Rattle.recovery.proofs.Line.{line-ticket, line-brings}
+use Rattle.recovery.proofs.Line.{line-sent, line-ticket, line-brings}
 use Rattle.recovery.proofs.Row.{recovered-row}
 use Rattle.recovery.proofs.Value.{Gives, value-read, placed}
 
@@ -88,6 +89,15 @@ module _ (st : Store) (sound : Sound st) where
         line-brings st sound (ticketOf st s a) (queryOf st s a) some small word
         (omega (arith, long, ready .shape .r-least)) (omega (arith, long, ready .shape .r-most))
 
+    sent : (buffer : List ℕ) → lineLength (st .r) ≤ length buffer
+        → (writeNumber (ticketOf st s a) (length (queryOf st s a)) (length buffer) ≡ 0)
+        × (take (writeLength (ticketOf st s a) (length (queryOf st s a)) (length buffer))
+        (writeAfter 1 (ticketOf st s a) (queryOf st s a) buffer)
+        ≡ queryLine st s a)
+    sent buffer room =
+        line-sent (ticketOf st s a) (queryOf st s a) some small word
+        (omega (arith, long, ready .shape .r-least)) (omega (arith, long, ready .shape .r-most)) buffer (omega (arith, long, room))
+
     ticket : lineTicket (lineOf st s a) ≡ ticketOf st s a
     ticket =
         line-ticket st sound (ticketOf st s a) (queryOf st s a) some small word
@@ -143,14 +153,32 @@ module _ (st : Store) (sound : Sound st) where
           (length-product (st .r) (st .columns) (queryOf st s a) (st .elements) ∙ sym (later-healthy s u a w .columns)) in
           rw (later-healthy s u a w .formed, lent, p .still, wide)
 
-      module _ (out : List ℕ) (room : st .columns ≤ length out) where
-        recovers : rowFor (telling u (readFrom (lineOf st s a) out masks value)) ≡ wanted st (a .positions) masks
-        recovers = ap (λ x. rowFor (telling u x)) (line s u a w out masks value room .1) ∙ honest-row
+      module _ (e : Event) (brings : Brings e (honest st s a masks value)) where
+        t : Told calls u e (honest st s a masks value)
+        t = told calls u e (honest st s a masks value) brings
+
+        abbrev slot : ℕ
+        slot = slotOf (u .table) (ticketOf st s a)
+
+        by-row : replyNumber (telling u (honest st s a masks value)) ≡ rowNumber (u .table) slot (wanted st (a .positions) masks)
+        by-row = row-decides ∙ ap (rowNumber (u .table) slot) honest-row
+
+        recovers : let found = wanted st (a .positions) masks in
+            let number = rowNumber (u .table) slot found in
+            (rowFor (telling u (honest st s a masks value)) ≡ found)
+            × (said calls u e .number ≡ number)
+            × (said calls u e .length ≡ after number (valueLength (st .b) (st .columns) found) 0)
+            × (said calls u e .value ≡ after number (laid (valueOf (st .b) (st .columns) found) value) value)
+        recovers =
+            let h = later-healthy s u a w in (
+              honest-row,
+              t .number ∙ by-row,
+              t .length ∙ rw (by-row, honest-row, h .width, h .columns),
+              t .value ∙ rw (by-row, honest-row, h .width, h .columns),
+            )
 
         answers : (v : List ℕ) → Placed st a masks v
-            → (said calls u (comes (lineOf st s a) out masks value) .number ≡ 0)
-            × (said calls u (comes (lineOf st s a) out masks value) .length ≡ length v)
-            × (said calls u (comes (lineOf st s a) out masks value) .value ≡ laid v value)
+            → (said calls u e .number ≡ 0) × (said calls u e .length ≡ length v) × (said calls u e .value ≡ laid v value)
         answers v k = (
           t .number ∙ number,
           t .length
@@ -162,9 +190,6 @@ module _ (st : Store) (sound : Sound st) where
               ∙ ap (λ (x : List ℕ). laid x value) (ap (valueOf (u .table .b) (u .table .columns)) found ∙ gives .value-is),
         )
           where
-            t : Told calls u (comes (lineOf st s a) out masks value) (honest st s a masks value)
-            t = told calls u (comes (lineOf st s a) out masks value) (honest st s a masks value) (line s u a w out masks value room)
-
             -- the recovered row is the one that the writer made for the key
             found : rowFor (telling u (honest st s a masks value)) ≡ rowOf (st .b) (st .columns) (a .digest) v
             found =
@@ -190,11 +215,17 @@ demand st sound = record {
     gone-refused s x none (callsOf st) e brings,
     λ r roomy. gone-ten s x none (callsOf st) e brings (reached-healthy st sound s r) (roomy .0) (roomy .1),
   );
+  ten = λ s e x brings. ten-only s x (callsOf st) e brings;
   own = own st sound;
+  ternary = λ s a i. error-ternary (asking (callsOf st) s a) i;
+  sent = sent st sound;
   line = line st sound;
   late = λ s u a w none out masks value. late st sound s u a w out masks value none;
-  recovers = λ s u a p calm out masks value room roomy. recovers st sound s u a p calm masks value roomy out room;
-  answers = λ s u a p calm out masks value v room roomy. answers st sound s u a p calm masks value roomy out room v;
+  recovers = λ s u a p calm masks value roomy. recovers st sound s u a p calm masks value roomy;
+  answers = λ s u a p calm masks value v roomy k e brings. answers st sound s u a p calm masks value roomy e brings v k;
+  delivers = λ s u a p calm out masks value v room roomy k.
+      answers st sound s u a p calm masks value roomy (comes (lineOf st s a) out masks value)
+      (line st sound s u a (p .since) out masks value room) v k;
   groups = λ slab es. grouped (callsOf st) (st .b) (st .columns) slab es (made st sound);
   slots = λ s e r fits q free. does-others (does (callsOf st) s e fits) (reached-healthy st sound s r) q free .secret;
 }

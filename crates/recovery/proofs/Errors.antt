@@ -1,18 +1,15 @@
 -- The errors that an open draws are words: each is 0, 1 or 2^32 - 1.
-use mathlib.Core.Path.{_≡_, refl}
+use mathlib.Core.Path.{refl}
 use mathlib.Core.Bool.{Bool, true, false, cond}
 use mathlib.Core.List.{List, [], _∷_}
-use mathlib.Core.Logic.{_⊎_, inl, inr}
+use mathlib.Core.Logic.{inl, inr}
 use Prim.Native.Nat.{ℕ, zero, suc, _*_, _^_, _<_}
 use native.Mathlib.Omega.{arith}
 use lib.Dec.{leb}
 use lib.ListN.{getD, take}
 use Rattle.arith.specs.Sampler.{accepted, ternary, given}
 use Rattle.client.specs.Open.{Asked, unread, errorOf}
-
--- 0, 1 or -1, as a word
-abbrev pub Ternary : ℕ → Type 0
-Ternary w = (w ≡ 0) ⊎ ((w ≡ 1) ⊎ (w ≡ 4294967295))
+use Rattle.recovery.specs.Noise.{Ternary}
 
 is-ternary : (interval x : ℕ) → Ternary (ternary interval x)
 unfolding ternary

@@ -1,18 +1,22 @@
--- The honest line is read as its ticket and its words.
-use mathlib.Core.Path.{_≡_, ap, _∙_}
+-- The query line is what the writer makes, and the honest line is read as its ticket and its words.
+use mathlib.Core.Path.{_≡_, sym, ap, ap₂, _∙_}
 use mathlib.Core.List.{List}
 use Prim.Native.Nat.{ℕ, _^_, _<_, _≤_}
 use native.Mathlib.Omega.{arith}
-use lib.ListN.{length, getD}
+use lib.ListN.{length, getD, take}
+use borrow.Author.Tests.{le-ltb, ne-eqb}
+use Rattle.laws.specs.Lists.{laid}
 use Rattle.laws.specs.Refusals.{outside}
 use Rattle.laws.proofs.Below.{each-below}
-use Rattle.laws.proofs.Refusals.{neither, inside}
+use Rattle.laws.proofs.Filling.{take-laid}
+use Rattle.laws.proofs.Refusals.{neither, inside, within, written}
 use Rattle.plain.proofs.matrix.Cells.{length-product}
 use Rattle.arith.specs.Codec.{columnsBad}
-use Rattle.client.specs.Lines.{frame, lineTicket}
+use Rattle.client.specs.Lines.{frame, lineLength, lineTicket, writeNumber, writeLength, writeAfter}
+use Rattle.client.proofs.lines.Answers.{whole}
 use Rattle.client.proofs.lines.RoundTrip.{read-back}
 use Rattle.runs.specs.Run.{comes, Brings}
-use Rattle.runs.proofs.Brings.{frame-brings}
+use Rattle.runs.proofs.Brings.{length-words, frame-brings}
 use Rattle.recovery.specs.Store.{Store, Sound, served, servedLine}
 use Rattle.recovery.proofs.Row.{product-small}
 
@@ -30,6 +34,31 @@ module _ (st : Store) (q : List ℕ) where
   small =
       each-below (2 ^ 32) (served st q) (omega arith)
       (λ i l. product-small (st .r) (st .columns) q (st .elements) i (omega (arith, long)))
+
+-- a query line
+module _ (t : ℕ) (q : List ℕ) (some : 0 < t) (fits : t < 2 ^ 32) (words : (i : ℕ) → getD q i 0 < 2 ^ 32) (least : 1 ≤ length q)
+    (most : length q ≤ 4096) where
+  frame-long : length (frame 1 t q) ≡ lineLength (length q)
+  frame-long =
+      let back = read-back 1 t q (omega arith) some fits words least most in
+      whole 1 (frame 1 t q) (back .0) .long ∙ ap lineLength (sym (length-words (frame 1 t q)) ∙ ap length (back .2))
+
+  taken : (buffer : List ℕ) → lineLength (length q) ≤ length buffer → writeNumber t (length q) (length buffer) ≡ 0
+  unfolding writeNumber
+  taken buffer room =
+      simp (ne-eqb t 0 (λ e. omega arith), within 1 4096 (length q) least most, le-ltb (length buffer) (lineLength (length q)) room)
+
+  -- is what the writer leaves at the start of a buffer that has room for it
+  pub line-sent : (buffer : List ℕ) → lineLength (length q) ≤ length buffer
+      → (writeNumber t (length q) (length buffer) ≡ 0)
+      × (take (writeLength t (length q) (length buffer)) (writeAfter 1 t q buffer) ≡ frame 1 t q)
+  line-sent buffer room =
+      let done = taken buffer room in (
+        done,
+        ap₂ (λ (k : ℕ) (xs : List ℕ). take k xs) (sym (written _ (lineLength (length q)) 0 done))
+            (sym (written _ (laid (frame 1 t q) buffer) buffer done))
+            ∙ take-laid (frame 1 t q) buffer (lineLength (length q)) frame-long,
+      )
 
 -- the server's line for a query line
 module _ (st : Store) (sound : Sound st) (t : ℕ) (q : List ℕ) (some : 0 < t) (fits : t < 2 ^ 32)

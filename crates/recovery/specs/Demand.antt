@@ -5,15 +5,17 @@ use mathlib.Core.Bool.{true, false}
 use mathlib.Core.List.{List}
 use lib.ListN.{length, getD, take}
 use Rattle.laws.specs.Lists.{row, laid}
-use Rattle.arith.specs.Codec.{valueRoom, rowOf, encodeNumber}
+use Rattle.laws.specs.Refusals.{after}
+use Rattle.arith.specs.Codec.{valueRoom, rowOf, encodeNumber, valueLength, valueOf}
 use Rattle.builder.specs.Database.{buildNumber, buildAfter}
 use Rattle.client.specs.Table.{malformed, pending, slotOf, digestAt}
 use Rattle.client.specs.Open.{errorOf, storedSecret}
-use Rattle.client.specs.Reply.{rowFor}
-use Rattle.client.specs.Lines.{frame}
-use Rattle.runs.specs.Run.{State, Ask, Tell, Event, opens, comes, asking, telling, readFrom, Brings, step, run, start, Fits, Typed}
+use Rattle.client.specs.Reply.{rowFor, rowNumber}
+use Rattle.client.specs.Lines.{frame, lineLength, writeNumber, writeLength, writeAfter}
+use Rattle.runs.specs.Run.{State, Ask, Tell, Event, opens, comes, asking, telling, Brings, step, run, start, Fits, Typed}
 use Rattle.runs.specs.Said.{said, Refused}
 use Rattle.runs.specs.Groups.{Grouped, touched}
+use Rattle.recovery.specs.Noise.{Ternary}
 use Rattle.recovery.specs.Store.{Store, callsOf, served, servedLine, Calm, wanted}
 
 -- "a fresh pending table of the same b and C", and "any sequence of opens, replies and discards" after it
@@ -45,9 +47,12 @@ pub record Waiting (st : Store) (s : State) (a : Ask) (u : State) : Type 0 where
   pub since : Since st s a u
   pub still : pending (u .table) (ticketOf st s a) ≡ true
 
--- the line that an honest server answers to the query line of that ticket and these words
+-- the query line of that ticket and these words, and the line that an honest server answers to it
+abbrev pub queryLine : Store → State → Ask → List ℕ
+queryLine st s a = frame 1 (ticketOf st s a) (queryOf st s a)
+
 abbrev pub lineOf : Store → State → Ask → List ℕ
-lineOf st s a = servedLine st (frame 1 (ticketOf st s a) (queryOf st s a))
+lineOf st s a = servedLine st (queryLine st s a)
 
 -- what that line has to say: the open's ticket, and the server's words for its query
 abbrev pub honest : Store → State → Ask → (masks value : List ℕ) → Tell
@@ -87,11 +92,22 @@ pub record Demand (st : Store) : Type 0 where
   pub gone : (s : State) (e : Event) (x : Tell) → Brings e x → pending (s .table) (x .ticket) ≡ false
       → Refused (callsOf st) s e (x .value)
       × (Reached st s → Roomy st (x .masks) (x .value) → said (callsOf st) s e .number ≡ 10)
+  -- and 10 is given for no other reason
+  pub ten : (s : State) (e : Event) (x : Tell) → Brings e x → said (callsOf st) s e .number ≡ 10
+      → pending (s .table) (x .ticket) ≡ false
   -- a late line is never decoded with a newer query's secret: while a ticket is pending, its slot has its own open's digest and
   -- secret
   pub own : (s u : State) (a : Ask) → Waiting st s a u
       → (digestAt (u .table) (slotOf (u .table) (ticketOf st s a)) ≡ a .digest)
       × (row (st .columns) (u .slab) (slotOf (u .table) (ticketOf st s a)) ≡ storedSecret (asking (callsOf st) s a))
+  -- the errors of an open are -1, 0 or 1
+  pub ternary : (s : State) (a : Ask) (i : ℕ) → Ternary (getD (errorOf (asking (callsOf st) s a)) i 0)
+  -- the query line that the server has is what the line writer leaves of the ticket and the words that the open was answered
+  pub sent : (s u : State) (a : Ask) → Since st s a u → (buffer : List ℕ) → lineLength (st .r) ≤ length buffer
+      → (writeNumber (ticketOf st s a) (length (queryOf st s a)) (length buffer) ≡ 0)
+      × (take (writeLength (ticketOf st s a) (length (queryOf st s a)) (length buffer))
+      (writeAfter 1 (ticketOf st s a) (queryOf st s a) buffer)
+      ≡ queryLine st s a)
   -- The honest server's line comes, and there is room for its words: it is read as its ticket and its words, whenever that is.
   -- Where the ticket is no longer pending, it is refused and changes nothing, room or not.
   pub line : (s u : State) (a : Ask) → Since st s a u → (out masks value : List ℕ) → st .columns ≤ length out
@@ -101,13 +117,23 @@ pub record Demand (st : Store) : Type 0 where
       → Refused (callsOf st) u (comes (lineOf st s a) out masks value) value
       × (st .columns ≤ length out → Roomy st masks value → said (callsOf st) u (comes (lineOf st s a) out masks value) .number ≡ 10)
   -- "if in every column the sum of error times entry is above -2^(31-b) and at most 2^(31-b), the recovered row is the sum of
-  -- the queried rows plus the masks, modulo 2^b": the row that the client makes of what it has read in that line
+  -- the queried rows plus the masks, modulo 2^b": however the honest words come, this is the row that the client makes of them,
+  -- and what it tells is what the row reader and the digest say of that row
   pub recovers : (s u : State) (a : Ask) → Waiting st s a u → Calm st (errorOf (asking (callsOf st) s a))
-      → (out masks value : List ℕ) → st .columns ≤ length out → Roomy st masks value
-      → rowFor (telling u (readFrom (lineOf st s a) out masks value)) ≡ wanted st (a .positions) masks
-  -- "the answer is that key's stored bytes": the line comes, and the terminal is told 0 and the value's length, and has the
-  -- value at the start of its buffer, whose rest stays
+      → (masks value : List ℕ) → Roomy st masks value → (e : Event) → Brings e (honest st s a masks value)
+      → let found = wanted st (a .positions) masks in
+      let number = rowNumber (u .table) (slotOf (u .table) (ticketOf st s a)) found in
+      (rowFor (telling u (honest st s a masks value)) ≡ found)
+      × (said (callsOf st) u e .number ≡ number)
+      × (said (callsOf st) u e .length ≡ after number (valueLength (st .b) (st .columns) found) 0)
+      × (said (callsOf st) u e .value ≡ after number (laid (valueOf (st .b) (st .columns) found) value) value)
+  -- "the answer is that key's stored bytes": the terminal is told 0 and the value's length, and has the value at the start of
+  -- its buffer, whose rest stays
   pub answers : (s u : State) (a : Ask) → Waiting st s a u → Calm st (errorOf (asking (callsOf st) s a))
+      → (masks value v : List ℕ) → Roomy st masks value → Placed st a masks v → (e : Event) → Brings e (honest st s a masks value)
+      → (said (callsOf st) u e .number ≡ 0) × (said (callsOf st) u e .length ≡ length v) × (said (callsOf st) u e .value ≡ laid v value)
+  -- and in one sentence: the host's line comes, and the terminal has the key's bytes
+  pub delivers : (s u : State) (a : Ask) → Waiting st s a u → Calm st (errorOf (asking (callsOf st) s a))
       → (out masks value v : List ℕ) → st .columns ≤ length out → Roomy st masks value → Placed st a masks v
       → (said (callsOf st) u (comes (lineOf st s a) out masks value) .number ≡ 0)
       × (said (callsOf st) u (comes (lineOf st s a) out masks value) .length ≡ length v)

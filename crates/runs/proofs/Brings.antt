@@ -42,7 +42,7 @@ told l s (comes line out masks value) a (taken, is) =
 told l s (discards ticket) a brings = absurd brings
 
 -- the words of a line are as many as it says
-length-words : (line : List ℕ) → length (lineWords line) ≡ lineColumns line
+pub length-words : (line : List ℕ) → length (lineWords line) ≡ lineColumns line
 unfolding lineWords
 length-words line = length-build (lineColumns line) _
 

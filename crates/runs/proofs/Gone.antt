@@ -1,14 +1,18 @@
 -- A reply to a ticket that is not pending, never or no longer, is refused and changes nothing: of any table, over any slab.
 use mathlib.Core.Path.{_≡_, refl, sym, ap, _∙_}
-use mathlib.Core.Bool.{Bool, true, false, true≢false}
+use mathlib.Core.Bool.{Bool, true, false, true≢false, not}
+use mathlib.Core.List.{List, _∷_}
 use Prim.Native.Nat.{ℕ, _<_, _≤_}
 use native.Mathlib.Decide.{decLt}
 use native.Mathlib.Omega.{arith}
+use lib.Dec.{eqb}
 use lib.ListN.{length}
-use Rattle.laws.proofs.Refusals.{kept}
+use borrow.Author.Tests.{eq-eqb}
+use Rattle.laws.specs.Refusals.{Test, _⇒_, first}
+use Rattle.laws.proofs.Refusals.{not-answered, kept}
 use Rattle.arith.specs.Codec.{valueRoom}
-use Rattle.client.specs.Table.{pending}
-use Rattle.client.specs.Reply.{replyNumber, closing}
+use Rattle.client.specs.Table.{malformed, pending}
+use Rattle.client.specs.Reply.{lentBad, slotFor, rowFor, rowTests, replyNumber, closing}
 use Rattle.client.proofs.reply.Answers.{none-early, waiting}
 use Rattle.runs.specs.Run.{Lent, State, Tell, Event, telling, Brings}
 use Rattle.runs.specs.Said.{said, Refused}
@@ -51,3 +55,27 @@ module _ (s : State) (a : Tell) (gone : pending (s .table) (a .ticket) ≡ false
     unfolding replyNumber
     gone-ten {b} {columns} h wide roomy =
         told l s e a brings .number ∙ rw (h .formed, lent-good b columns h (a .masks) (a .value) wide roomy, gone)
+
+-- 10 is given for a ticket that is not pending, and for nothing else
+module _ (s : State) (a : Tell) where
+  ten-gone : replyNumber (telling s a) ≡ 10 → pending (s .table) (a .ticket) ≡ false
+  unfolding replyNumber
+  ten-gone =
+      by-tests (malformed (s .table)) (lentBad (s .table) (length (s .slab)) (length (a .masks)) (length (a .value)))
+      (pending (s .table) (a .ticket))
+    where
+      -- the tests after it, none of which has that number
+      later : List Test
+      later =
+          not (eqb (length (a .response)) (s .table .columns)) ⇒ 12
+          ∷ rowTests (s .table) (slotFor (telling s a)) (rowFor (telling s a))
+
+      by-tests : (bad lent waits : Bool) → first (bad ⇒ 18 ∷ lent ⇒ 2 ∷ not waits ⇒ 10 ∷ later) ≡ 10 → waits ≡ false
+      by-tests true lent waits e = absurd (omega arith)
+      by-tests false true waits e = absurd (omega arith)
+      by-tests false false true e =
+          absurd (true≢false (sym (eq-eqb (first later) 10 e) ∙ not-answered 9 later (refl, (refl, (refl, (refl, tt))))))
+      by-tests false false false e = refl
+
+  pub ten-only : (l : Lent) (e : Event) → Brings e a → said l s e .number ≡ 10 → pending (s .table) (a .ticket) ≡ false
+  ten-only l e brings ten = ten-gone (sym (told l s e a brings .number) ∙ ten)

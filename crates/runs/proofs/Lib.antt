@@ -1,4 +1,5 @@
 -- Laws of runs, over the one account of what an event comes to (Steps).
+pub mod Anchors
 pub mod Steps
 pub mod Healthy
 pub mod Touched

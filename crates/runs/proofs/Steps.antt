@@ -3,23 +3,23 @@
 use mathlib.Core.Path.{_≡_, refl}
 use mathlib.Core.Bool.{Bool, true, false, cond, _&&_, _||_}
 use mathlib.Core.List.{List, [], _∷_}
-use Prim.Native.Nat.{ℕ, zero, suc, _+_, _*_}
+use Prim.Native.Nat.{ℕ, zero, suc, _+_, _*_, _<_}
 use native.Mathlib.Omega.{arith}
-use lib.Dec.{eqb, eqb·suc-zero}
+use lib.Dec.{ltb, eqb, eqb·suc-zero}
 use lib.ListN.{length}
-use Rattle.laws.specs.Refusals.{after}
+use Rattle.laws.specs.Refusals.{_⇒_, first, after}
 use Rattle.laws.specs.Lists.{splice}
 use Rattle.client.specs.Table.{pending, slotOf, taken, closed, wiped}
 use Rattle.client.specs.Open.{openNumber, storedSecret}
 use Rattle.client.specs.Reply.{Received, replyNumber, closing}
 use Rattle.client.specs.Discard.{discardNumber}
-use Rattle.client.specs.Lines.{readNumber}
+use Rattle.client.specs.Lines.{lineBad, lineColumns, readNumber}
 use Rattle.client.proofs.open.Answers.{Ready, succeeded}
 use Rattle.client.proofs.reply.Answers.{none-early, waiting}
 use Rattle.client.proofs.discard.Answers.{Accepted, accepted}
 use Rattle.runs.specs.Run.{Lent, State, Ask, Tell, Event, opens, replies, comes, discards, asking, telling, readFrom, replied}
 use Rattle.runs.specs.Run.{step, run, Fits, Typed}
-use Rattle.runs.specs.Groups.{one, openedBy, repliedOn, answering, failing, answeredBy, failedBy, discardedBy, often}
+use Rattle.runs.specs.Groups.{one, openedBy, counted, answering, failing, answeredBy, failedBy, discardedBy, often}
 use Rattle.runs.specs.Groups.{shutOn, touched}
 
 -- the state where the lowest free slot is taken, and where a ticket's is closed
@@ -58,9 +58,23 @@ splits : (n : ℕ) → one (answering n) + one (failing n) ≡ one (closing n)
 splits zero = refl
 splits (suc n) = rw (eqb·suc-zero n) (omega arith)
 
+-- no number of the line reader's answers a ticket or closes it
+reader-closes-none : (line : List ℕ) (room : ℕ) → 0 < readNumber 2 line room
+    → (answering (readNumber 2 line room) ≡ false) × (failing (readNumber 2 line room) ≡ false)
+unfolding readNumber
+reader-closes-none line room = by-tests (lineBad 2 line) (ltb room (lineColumns line))
+  where
+    by-tests : (bad short : Bool) → 0 < first (bad ⇒ 11 ∷ short ⇒ 2 ∷ [])
+        → (answering (first (bad ⇒ 11 ∷ short ⇒ 2 ∷ [])) ≡ false) × (failing (first (bad ⇒ 11 ∷ short ⇒ 2 ∷ [])) ≡ false)
+    by-tests true short h = (refl, refl)
+    by-tests false true h = (refl, refl)
+    by-tests false false h = absurd (omega arith)
+
 module _ (l : Lent) (s : State) where
   -- a reply: where it closes its ticket, that was pending
-  told : (a : Tell) → Does l s (replied s a) none (repliedOn answering s a) (repliedOn failing s a) none (shutOn s a)
+  told : (a : Tell)
+      → Does l s (replied s a) none (λ t. counted answering (replyNumber (telling s a)) (a .ticket) t)
+      (λ t. counted failing (replyNumber (telling s a)) (a .ticket) t) none (shutOn s a)
   told a =
       by-tests (answering (replyNumber x)) (failing (replyNumber x)) (closing (replyNumber x)) (splits (replyNumber x))
       (λ e. waiting x (none-early x e))
@@ -96,20 +110,21 @@ module _ (l : Lent) (s : State) where
     where
       by-number : (n : ℕ) → (n ≡ 0 → Ready (asking l s a))
           → Does l s record { table = after n (took l s a .table) (s .table); slab = after n (took l s a .slab) (s .slab) }
-          (λ t. after n (one (eqb (s .table .next) t)) 0) none none none (λ q. after n (eqb q (slotOf (s .table) 0)) false)
+          (λ t. after n (one (eqb (after n (s .table .next) 0) t)) 0) none none none
+          (λ q. after n (eqb q (slotOf (s .table) 0)) false)
       by-number zero ready = takes a whole (ready refl)
       by-number (suc n) ready = still
   does (replies a) fits = told a
-  does (comes line out masks value) fits = by-number (readNumber 2 line (length out))
+  does (comes line out masks value) fits = by-number (readNumber 2 line (length out)) (reader-closes-none line (length out))
     where
       a : Tell
       a = readFrom line out masks value
 
-      by-number : (n : ℕ)
-          → Does l s (after n (replied s a) s) none (λ t. after n (repliedOn answering s a t) 0)
-          (λ t. after n (repliedOn failing s a t) 0) none (λ q. after n (shutOn s a q) false)
-      by-number zero = told a
-      by-number (suc n) = still
+      by-number : (n : ℕ) → (0 < n → (answering n ≡ false) × (failing n ≡ false))
+          → Does l s (after n (replied s a) s) none (λ t. counted answering (after n (replyNumber (telling s a)) n) (a .ticket) t)
+          (λ t. counted failing (after n (replyNumber (telling s a)) n) (a .ticket) t) none (λ q. after n (shutOn s a q) false)
+      by-number zero other = told a
+      by-number (suc n) other = let k = other (omega arith) in rw (k .0, k .1) still
   does (discards ticket) fits =
       let size = length (s .slab) in by-number (discardNumber (s .table) size ticket) (accepted (s .table) size ticket)
     where

@@ -1,5 +1,5 @@
--- What becomes of a ticket, and which slots an event may write. Each is a function of the ticket or the slot, so that an event
--- may close several.
+-- What becomes of a ticket, as the terminal is told, and which slots an event may write. Each is a function of the ticket or the
+-- slot, so that an event may close several.
 use mathlib.Core.Path.{_≡_}
 use Prim.Native.Nat.{ℕ, _+_}
 use mathlib.Core.Bool.{Bool, false, cond, _&&_, _||_}
@@ -12,6 +12,7 @@ use Rattle.client.specs.Open.{openNumber}
 use Rattle.client.specs.Reply.{slotFor, replyNumber, closing}
 use Rattle.client.specs.Discard.{discardNumber}
 use Rattle.client.specs.Lines.{readNumber}
+use Rattle.runs.specs.Said.{said}
 use Rattle.runs.specs.Run.{Lent, State, Tell, Event, opens, replies, comes, discards, asking, telling, readFrom, step, run}
 
 -- 1 where a test holds
@@ -20,20 +21,20 @@ one b = cond b 1 0
 
 -- how often an event opens ticket t
 abbrev pub openedBy : Lent → State → Event → ℕ → ℕ
-openedBy l s (opens a) t = after (openNumber (asking l s a)) (one (eqb (s .table .next) t)) 0
+openedBy l s (opens a) t = after (said l s (opens a) .number) (one (eqb (said l s (opens a) .ticket) t)) 0
 openedBy l s (replies a) t = 0
 openedBy l s (comes line out masks value) t = 0
 openedBy l s (discards ticket) t = 0
 
--- how often it is a reply for ticket t whose number is one of these
-abbrev pub repliedOn : (ℕ → Bool) → State → Tell → ℕ → ℕ
-repliedOn these s a t = one (these (replyNumber (telling s a)) && eqb (a .ticket) t)
+-- how often it is a reply for ticket t that is told one of these numbers
+abbrev pub counted : (ℕ → Bool) → (number ticket t : ℕ) → ℕ
+counted these number ticket t = one (these number && eqb ticket t)
 
 abbrev pub repliedBy : (ℕ → Bool) → Lent → State → Event → ℕ → ℕ
 repliedBy these l s (opens a) t = 0
-repliedBy these l s (replies a) t = repliedOn these s a t
+repliedBy these l s (replies a) t = counted these (said l s (replies a) .number) (a .ticket) t
 repliedBy these l s (comes line out masks value) t =
-    after (readNumber 2 line (length out)) (repliedOn these s (readFrom line out masks value) t) 0
+    counted these (said l s (comes line out masks value) .number) (said l s (comes line out masks value) .ticket) t
 repliedBy these l s (discards ticket) t = 0
 
 -- the numbers that answer a ticket, and those that close it by a refusal
@@ -54,7 +55,7 @@ abbrev pub discardedBy : Lent → State → Event → ℕ → ℕ
 discardedBy l s (opens a) t = 0
 discardedBy l s (replies a) t = 0
 discardedBy l s (comes line out masks value) t = 0
-discardedBy l s (discards ticket) t = after (discardNumber (s .table) (length (s .slab)) ticket) (one (eqb ticket t)) 0
+discardedBy l s (discards ticket) t = after (said l s (discards ticket) .number) (one (eqb ticket t)) 0
 
 -- how often a run does so with ticket t
 unfoldable pub often : (Lent → State → Event → ℕ → ℕ) → Lent → State → List Event → ℕ → ℕ
