@@ -14,15 +14,15 @@ use Rattle.laws.specs.Lists.{row, splice}
 use Rattle.laws.proofs.Lists.{room}
 use Rattle.laws.proofs.Splice.{row-kept}
 use Rattle.plain.proofs.matrix.Cells.{length-product}
-use Rattle.client.specs.declared.table.Table.{Table}
-use Rattle.client.specs.Table.{Sized, malformed, pending, slotOf, closed, wiped, freshNumber, freshAfter}
+use Rattle.pending.specs.declared.table.Table.{Table}
+use Rattle.pending.specs.Table.{Sized, malformed, pending, slotOf, closed, wiped, freshNumber, freshAfter}
 use Rattle.client.specs.Open.{Asked, secretOf, storedSecret, openNumber, openOf, openLeft}
 use Rattle.client.specs.Reply.{Received, slotFor, replyNumber, closing, replyOf, replySlab}
 use Rattle.client.specs.Discard.{discardNumber, discardTable, discardSlab}
-use Rattle.client.proofs.table.Lengths.{fresh-sized, taken-sized, closed-sized}
-use Rattle.client.proofs.table.Slots.{Kept, slot-pending, taken-others, closed-others}
-use Rattle.client.proofs.table.Formed.{taken-formed, closed-formed}
-use Rattle.client.proofs.table.Pending.{fresh-pending, taken-pending, closed-pending}
+use Rattle.pending.proofs.table.Lengths.{fresh-sized, taken-sized, closed-sized}
+use Rattle.pending.proofs.table.Slots.{Kept, slot-pending, taken-others, closed-others}
+use Rattle.pending.proofs.table.Formed.{taken-formed, closed-formed}
+use Rattle.pending.proofs.table.Pending.{fresh-pending, taken-pending, closed-pending}
 use Rattle.client.proofs.open.Answers.{Ready, succeeded}
 use Rattle.client.proofs.reply.Answers.{none-early, waiting, lent}
 use Rattle.client.proofs.discard.Answers.{accepted}

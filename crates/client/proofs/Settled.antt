@@ -6,48 +6,23 @@ use Prim.Native.Nat.{ℕ}
 use lib.Dec.{eqb}
 use Rattle.laws.specs.Contracts.{AllowsOne}
 use Rattle.laws.proofs.Contracts.{told-apart, _&_, past, skip}
-use Rattle.client.specs.declared.table.Making.{Making}
-use Rattle.client.specs.declared.table.Making.the-variants as making
 use Rattle.client.specs.declared.open.Opening.{Opening}
 use Rattle.client.specs.declared.open.Opening.the-variants as opening
 use Rattle.client.specs.declared.reply.Reply.{Reply}
 use Rattle.client.specs.declared.reply.Reply.the-variants as reply
 use Rattle.client.specs.declared.discard.Discarding.{Discarding}
 use Rattle.client.specs.declared.discard.Discarding.the-variants as discarding
-use Rattle.client.specs.declared.lines.LineWritten.{LineWritten}
-use Rattle.client.specs.declared.lines.LineWritten.the-variants as written
-use Rattle.client.specs.declared.lines.LineRead.{LineRead}
-use Rattle.client.specs.declared.lines.LineRead.the-variants as read
-use Rattle.client.specs.Table.{makingNumber}
 use Rattle.client.specs.Open.{OpenLeft, openingNumber, openingTicket, openingRead, openSaid}
 use Rattle.client.specs.Reply.{replyingNumber, replyingLength, replySaid}
 use Rattle.client.specs.Discard.{discardingNumber}
-use Rattle.client.specs.Lines.{writtenNumber, writtenLength, readNumberOf, readTicketOf, readColumnsOf}
-use Rattle.client.proofs.table.fresh as fresh
-use Rattle.client.proofs.table.is_malformed as is-malformed
+use Rattle.frames.proofs.Settled.{same-written, same-read}
 use Rattle.client.proofs.«open».query_for_4_wise_xor_filter as query
 use Rattle.client.proofs.reply.process_response as response
 use Rattle.client.proofs.discard.discard_query as discard
 use Rattle.client.proofs.lines.write_query_line as query-line
 use Rattle.client.proofs.lines.read_response_line as response-line
 
--- An answer can be made again from its number and what it gives: for `fresh` by `makingOf`, and so on for the others.
-
-abbrev makingOf : ℕ → Making
-makingOf n = cond (eqb n 0) making.Done (cond (eqb n 1) making.Width making.Shape)
-
-making-back : (x : Making) → makingOf (makingNumber x) ≡ x
-making-back making.Done = refl
-making-back making.Width = refl
-making-back making.Shape = refl
-
-pub fresh-settled : AllowsOne fresh.Kinds.ps fresh.Kinds.r fresh.Reads.Post
-fresh-settled κs a x y v w p q =
-    let same : x .answer ≡ y .answer = told-apart makingNumber makingOf making-back (p .0 ∙⁻¹ q .0) in
-    (λ i. record { answer = same i; table = (p .1 ∙⁻¹ q .1) i }, refl)
-
-pub is-malformed-settled : AllowsOne is-malformed.Kinds.ps is-malformed.Kinds.r is-malformed.Reads.Post
-is-malformed-settled κs a x y v w p q = (p ∙⁻¹ q, refl)
+-- An answer can be made again from its number and what it gives: for an open by `openingOf`, and so on for the others.
 
 abbrev openingOf : ℕ → ℕ → ℕ → Opening
 openingOf n ticket k =
@@ -124,36 +99,12 @@ discard-query-settled κs a x y v w p q =
       skip 1 (p .1 .1 ∙⁻¹ q .1 .1 & refl),
     )
 
-abbrev writtenSaid : LineWritten → ℕ × ℕ
-writtenSaid r = (writtenNumber r, writtenLength r)
-
-abbrev writtenOf : ℕ × ℕ → LineWritten
-writtenOf p = cond (eqb (p .0) 0) (written.Line (p .1)) (cond (eqb (p .0) 11) written.NoTicket written.Shape)
-
-written-back : (x : LineWritten) → writtenOf (writtenSaid x) ≡ x
-written-back (written.Line n) = refl
-written-back written.NoTicket = refl
-written-back written.Shape = refl
-
 pub write-query-line-settled : AllowsOne query-line.Kinds.ps query-line.Kinds.r query-line.Reads.Post
-write-query-line-settled κs a x y v w p q = (
-  told-apart writtenSaid writtenOf written-back (λ i. ((p .0 ∙⁻¹ q .0) i, (p .1 .0 ∙⁻¹ q .1 .0) i)),
-  skip 2 (p .1 .1 ∙⁻¹ q .1 .1 & refl),
-)
-
-abbrev readSaid : LineRead → ℕ × ℕ × ℕ
-readSaid r = (readNumberOf r, readTicketOf r, readColumnsOf r)
-
-abbrev readOf : ℕ × ℕ × ℕ → LineRead
-readOf p = cond (eqb (p .0) 0) (read.Words (p .1) (p .2)) (cond (eqb (p .0) 11) read.Malformed read.Shape)
-
-read-back : (x : LineRead) → readOf (readSaid x) ≡ x
-read-back (read.Words t n) = refl
-read-back read.Malformed = refl
-read-back read.Shape = refl
+write-query-line-settled κs a x y v w p q =
+    (same-written (p .0 ∙⁻¹ q .0) (p .1 .0 ∙⁻¹ q .1 .0), skip 2 (p .1 .1 ∙⁻¹ q .1 .1 & refl))
 
 pub read-response-line-settled : AllowsOne response-line.Kinds.ps response-line.Kinds.r response-line.Reads.Post
 read-response-line-settled κs a x y v w p q = (
-  told-apart readSaid readOf read-back (λ i. ((p .0 ∙⁻¹ q .0) i, (p .1 .0 ∙⁻¹ q .1 .0) i, (p .1 .1 .0 ∙⁻¹ q .1 .1 .0) i)),
+  same-read (p .0 ∙⁻¹ q .0) (p .1 .0 ∙⁻¹ q .1 .0) (p .1 .1 .0 ∙⁻¹ q .1 .1 .0),
   skip 1 (p .1 .1 .1 ∙⁻¹ q .1 .1 .1 & refl),
 )

@@ -1,6 +1,6 @@
 // Document 01, "Reply": a pending ticket that no reply will come for is closed and wiped.
-use super::table;
-use super::table::Table;
+use pending::table;
+use pending::table::Table;
 ghost use mathlib.Core.Path.{_≡_};
 ghost use lib.ListN.{length};
 ghost use Rattle.client.specs.Discard.{discardingNumber, discardNumber, discardTable, discardSlab};
@@ -51,9 +51,8 @@ pub fn discard_query(table: Table, slab: &mut [u32], ticket: u32) -> Discarded
             table: table,
         };
     };
-    let slot = table::slot_of(table, ticket);
     Discarded {
         answer: Discarding::Done,
-        table: table::close(table, slab, slot),
+        table: table::close(table, slab, ticket),
     }
 }

@@ -1,12 +1,12 @@
 // Document 01, "Open": samples a secret and an error, makes the query and stores what the reply will need.
-use super::table;
-use super::table::Table;
 use arith::sampler;
 use arith::sampler::Sampled;
 use leaves::limits;
 use leaves::positions as places;
 use leaves::rounding;
 use leaves::words as lent;
+use pending::table;
+use pending::table::Table;
 use plain::matrix;
 ghost use mathlib.Core.Path.{_≡_};
 ghost use mathlib.Core.Bool.{false};
@@ -20,8 +20,8 @@ ghost use Rattle.plain.specs.Matrix.{times};
 ghost use Rattle.leaves.specs.Positions.{positionsBad};
 ghost use Rattle.leaves.specs.Words.{zeroed};
 ghost use Rattle.arith.specs.Sampler.{given, sampledNumber, sampledRead};
-ghost use Rattle.client.specs.Table.{digestPending, full, slotOf, taken};
-ghost use Rattle.client.specs.Open.{asked, shapeBad, unread, bothRead, eitherShort, noisy, wraps, marked, early};
+ghost use Rattle.pending.specs.Table.{malformed, digestPending, full, slotOf, taken};
+ghost use Rattle.client.specs.Open.{asked, shapeBad, unread, bothRead, eitherShort, noisy, wraps, marked};
 ghost use Rattle.client.specs.Open.{openingNumber, openingTicket, openingRead, openSaid, openOf, left, openLeft};
 
 // What an open answers.
@@ -140,20 +140,20 @@ fn words_for_both(interval: u32, n: usize, r: usize, words: &[u32]) -> Sampled
 // Every refusal but 6, before anything is written; else the ticket and the count of words to read.
 fn plan(
     table: Table,
-    slab: &[u32],
+    slab: usize,
     n: usize,
     r: usize,
-    matrix: &[u32],
-    hint: &[u32],
+    matrix: usize,
+    hint: usize,
     interval: u32,
     positions: [u32; 4],
     digest: [u8; 32],
     words: &[u32],
-    secret: &[u32],
-    error: &[u32],
-    query: &[u32],
+    secret: usize,
+    error: usize,
+    query: usize,
 ) -> Opening
-    ensures { λ a. ⌜ openingNumber a ≡ early (asked table (now (slab .entry)) n r (now (matrix .entry)) (now (hint .entry)) interval positions digest (now (words .entry)) (now (secret .entry)) (now (error .entry)) (now (query .entry))) ⌝ }
+    ensures { λ a. ⌜ openingNumber a ≡ first (malformed table ⇒ 18 ∷ shapeBad (table .columns) n r slab matrix hint secret error query ⇒ 2 ∷ outside 1 1431655765 interval ⇒ 4 ∷ positionsBad r positions ⇒ 5 ∷ digestPending table digest ⇒ 7 ∷ full table ⇒ 8 ∷ eqb (table .next) 4294967295 ⇒ 9 ∷ eitherShort interval n r (now (words .entry)) ⇒ 3 ∷ []) ⌝ }
     ensures { λ a. ⌜ openingTicket a ≡ after (openingNumber a) (table .next) 0 ⌝ }
     ensures { λ a. ⌜ openingRead a ≡ after (openingNumber a) (bothRead interval n r (now (words .entry))) 0 ⌝ }
 {
@@ -164,12 +164,12 @@ fn plan(
         table.columns,
         n,
         r,
-        slab.len(),
-        matrix.len(),
-        hint.len(),
-        secret.len(),
-        error.len(),
-        query.len(),
+        slab,
+        matrix,
+        hint,
+        secret,
+        error,
+        query,
     ) {
         return Opening::Shape;
     }
@@ -312,7 +312,7 @@ fn store(
     put_secret(table.columns, slot, secret, hint, slab);
     lent::zero(secret);
     lent::zero(error);
-    table::take_slot(table, slot, digest)
+    table::take(table, digest)
 }
 
 // Opens a query for the key with these positions and this digest. On success `query` starts with the R words to send, and
@@ -337,18 +337,18 @@ pub fn query_for_4_wise_xor_filter(
 {
     let answer = plan(
         table,
-        slab,
+        slab.len(),
         n,
         r,
-        matrix,
-        hint,
+        matrix.len(),
+        hint.len(),
         interval,
         positions,
         digest,
         words,
-        secret,
-        error,
-        query,
+        secret.len(),
+        error.len(),
+        query.len(),
     );
     let Opening::Ticket(_, read) = answer else {
         return Opened {

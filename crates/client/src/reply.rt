@@ -1,10 +1,9 @@
 // Document 01, "Reply": a response to a pending ticket gives the stored value, or a numbered refusal.
-use super::table;
-use super::table::Table;
 use arith::codec;
 use arith::codec::Decoded;
-use leaves::digests;
 use leaves::rounding;
+use pending::table;
+use pending::table::Table;
 ghost use mathlib.Core.Path.{_≡_};
 ghost use mathlib.Core.Bool.{false, not};
 ghost use mathlib.Core.List.{[], _∷_};
@@ -14,7 +13,7 @@ ghost use lib.Dec.{eqb};
 ghost use Rattle.laws.specs.Refusals.{_⇒_, first, after};
 ghost use Rattle.laws.specs.Lists.{row, laid};
 ghost use Rattle.arith.specs.Codec.{columnsBad, valueRoom, valueLength, valueOf, decodedNumber};
-ghost use Rattle.client.specs.Table.{malformed, pending};
+ghost use Rattle.pending.specs.Table.{malformed, pending};
 ghost use Rattle.client.specs.Reply.{received, lentBad, lessWord, recovered, rowNumber, replyNumber, closing, replyingNumber, replyingLength};
 ghost use Rattle.client.specs.Reply.{replyLength, replySaid, replyOf, replySlab, replyValue};
 
@@ -145,7 +144,7 @@ fn read_row(table: Table, slot: usize, row: &[u32], value: &mut [u8]) -> Reply
     let Decoded::Value(n) = decoded else {
         return refused(decoded);
     };
-    if digests::digest_differs(digest, table::digest_of(table, slot)) {
+    if table::differs_at(table, slot, digest) {
         return Reply::Digest;
     }
     copy(&found[..n], value);
@@ -247,9 +246,8 @@ pub fn process_response(
             table: table,
         };
     }
-    let slot = table::slot_of(table, ticket);
     Replied {
         answer: answer,
-        table: table::close(table, slab, slot),
+        table: table::close(table, slab, ticket),
     }
 }

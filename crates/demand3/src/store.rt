@@ -1,7 +1,7 @@
 // The store: b 14, n 1, R 5, C 20, and one key of digest bytes 3, value [5 6], masks 9, positions 0 1 2 3 and target 2.
 use arith::codec;
 use builder::database;
-use client::lines;
+use frames::lines;
 use plain::matrix;
 
 // A.
@@ -25,12 +25,11 @@ pub(crate) fn hint() -> [u32; 20] {
     h
 }
 
-// The honest server's line: the query times D, in a frame like a query's but for its second digit, which says 02.
+// The honest server's line: the query times D, as a response.
 pub(crate) fn line(ticket: u32, query: [u32; 5]) -> [u8; 187] {
     let mut words = [0; 20];
     matrix::plain_product(1, 5, 20, &query, &elements(), &mut words);
     let mut text = [0; 187];
-    lines::write_query_line(ticket, &words, &mut text);
-    text[1] = 50;
+    lines::write_line(2, ticket, &words, &mut text);
     text
 }

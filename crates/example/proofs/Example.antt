@@ -24,11 +24,11 @@ use Rattle.arith.specs.Sampler.{accepted, ternary, given, holdsEnough, shortest
 use Rattle.arith.specs.Codec.{columnsBad, encodeNumber, recordOf, rowOf, bytesOf, endOf, markerBad}
 use Rattle.builder.specs.Database.{less, database, keysBad, buildNumber}
 use Rattle.builder.specs.Placement.{seenBefore, keyBad, placementBad}
-use Rattle.client.specs.Table.{alike, malformed, pending, digestPending, full, freshNumber}
+use Rattle.pending.specs.Table.{alike, malformed, pending, digestPending, full, freshNumber}
 use Rattle.client.specs.Open.{shapeBad, bothRead, eitherShort, noisy, wraps, marked, errorOf, openNumber}
 use Rattle.client.specs.Reply.{lentBad, lessWord, recovered, replyNumber}
 use Rattle.client.specs.Discard.{discardNumber}
-use Rattle.client.specs.Lines.{digit, hex, frame, digitValue, unhex, lineWords, digitsBad, lineBad, readNumber}
+use Rattle.frames.specs.Lines.{digit, hex, frame, digitValue, unhex, lineWords, digitsBad, lineBad, readNumber}
 use Rattle.runs.specs.Run.{asking, run}
 use Rattle.runs.specs.Said.{said}
 use Rattle.recovery.specs.Noise.{signed, sumℤ}

@@ -7,7 +7,7 @@ use Rattle.laws.specs.Sums.{sum}
 use Rattle.leaves.specs.Rounding.{rounded}
 use Rattle.plain.specs.Matrix.{grid, times}
 use Rattle.plain.specs.Bytes.{allBytes, matrixBytes, wordAt}
-use Rattle.client.specs.Lines.{digit, hex, frame, digitValue, unhex, lineWords}
+use Rattle.frames.specs.Lines.{digit, hex, frame, digitValue, unhex, lineWords}
 use Rattle.recovery.specs.Noise.{signed, Quiet}
 use Rattle.recovery.specs.Store.{Store, served, servedLine, wanted}
 

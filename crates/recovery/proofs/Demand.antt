@@ -12,10 +12,10 @@ use Rattle.laws.specs.Refusals.{after}
 use Rattle.laws.proofs.Refusals.{written}
 use Rattle.plain.proofs.matrix.Cells.{length-product}
 use Rattle.arith.specs.Codec.{rowOf, valueLength, valueOf}
-use Rattle.client.specs.Table.{pending, slotOf, digestAt, freshNumber}
+use Rattle.pending.specs.Table.{pending, slotOf, digestAt, freshNumber}
 use Rattle.client.specs.Open.{Asked, errorOf, storedSecret, secretOf, noisy, marked}
 use Rattle.client.specs.Reply.{slotFor, rowFor, rowNumber, replyNumber}
-use Rattle.client.specs.Lines.{lineLength, lineTicket, readNumber, readTicket, writeNumber, writeLength, writeAfter}
+use Rattle.frames.specs.Lines.{lineLength, lineTicket, readNumber, readTicket, writeNumber, writeLength, writeAfter}
 use Rattle.client.proofs.open.Answers.{Ready, succeeded}
 use Rattle.runs.specs.Run.{Lent, State, Ask, Event, opens, comes, asking, telling, readFrom, Brings, step, start}
 use Rattle.runs.specs.Said.{said, Refused}

@@ -12,9 +12,9 @@ use Rattle.laws.proofs.Filling.{take-laid}
 use Rattle.laws.proofs.Refusals.{neither, inside, within, written}
 use Rattle.plain.proofs.matrix.Cells.{length-product}
 use Rattle.arith.specs.Codec.{columnsBad}
-use Rattle.client.specs.Lines.{frame, lineLength, lineTicket, writeNumber, writeLength, writeAfter}
-use Rattle.client.proofs.lines.Answers.{whole}
-use Rattle.client.proofs.lines.RoundTrip.{read-back}
+use Rattle.frames.specs.Lines.{frame, lineLength, lineTicket, writeNumber, writeLength, writeAfter}
+use Rattle.frames.proofs.lines.Answers.{whole}
+use Rattle.frames.proofs.lines.RoundTrip.{read-back}
 use Rattle.runs.specs.Run.{comes, Brings}
 use Rattle.runs.proofs.Brings.{length-words, frame-brings}
 use Rattle.recovery.specs.Store.{Store, Sound, served, servedLine}

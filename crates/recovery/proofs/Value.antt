@@ -26,9 +26,9 @@ use Rattle.builder.specs.Database.{rowsSum, database, buildNumber, buildAfter}
 use Rattle.builder.proofs.database.Answers as builder
 use Rattle.builder.proofs.database.Law.{length-database, key-row}
 use Rattle.builder.proofs.database.Success.{built-row}
-use Rattle.client.specs.declared.table.Table.{Table}
+use Rattle.pending.specs.declared.table.Table.{Table}
 use Rattle.leaves.specs.Digests.{differs}
-use Rattle.client.specs.Table.{digestAt}
+use Rattle.pending.specs.Table.{digestAt}
 use Rattle.client.specs.Reply.{rowNumber}
 use Rattle.client.proofs.reply.Reading.{Readable, room-most, digest-left}
 use Rattle.recovery.specs.Store.{Store, wanted}

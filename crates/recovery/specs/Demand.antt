@@ -8,10 +8,10 @@ use Rattle.laws.specs.Lists.{row, laid}
 use Rattle.laws.specs.Refusals.{after}
 use Rattle.arith.specs.Codec.{valueRoom, rowOf, encodeNumber, valueLength, valueOf}
 use Rattle.builder.specs.Database.{buildNumber, buildAfter}
-use Rattle.client.specs.Table.{malformed, pending, slotOf, digestAt}
+use Rattle.pending.specs.Table.{malformed, pending, slotOf, digestAt}
 use Rattle.client.specs.Open.{errorOf, storedSecret}
 use Rattle.client.specs.Reply.{rowFor, rowNumber}
-use Rattle.client.specs.Lines.{frame, lineLength, writeNumber, writeLength, writeAfter}
+use Rattle.frames.specs.Lines.{frame, lineLength, writeNumber, writeLength, writeAfter}
 use Rattle.runs.specs.Run.{State, Ask, Tell, Event, opens, comes, asking, telling, Brings, step, run, start, Fits, Typed}
 use Rattle.runs.specs.Said.{said, Refused}
 use Rattle.runs.specs.Groups.{Grouped, touched}

@@ -11,7 +11,7 @@ use Rattle.arith.specs.Codec.{columnsBad}
 use Rattle.leaves.specs.Limits.{elementsBad}
 use Rattle.plain.specs.Matrix.{times, cell}
 use Rattle.builder.specs.Database.{rowsSum}
-use Rattle.client.specs.Lines.{frame, lineTicket, lineWords}
+use Rattle.frames.specs.Lines.{frame, lineTicket, lineWords}
 use Rattle.runs.specs.Run.{Lent}
 use Rattle.recovery.specs.Noise.{noise, Quiet}
 

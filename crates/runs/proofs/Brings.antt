@@ -12,8 +12,8 @@ use Rattle.laws.proofs.Filling.{take-laid}
 use Rattle.laws.proofs.Lists.{length-build}
 use Rattle.laws.proofs.Refusals.{kept, written}
 use Rattle.client.specs.Reply.{replyNumber, replyOf, replyValue}
-use Rattle.client.specs.Lines.{frame, lineTicket, lineColumns, lineWords, lineBad, readNumber}
-use Rattle.client.proofs.lines.RoundTrip.{read-back}
+use Rattle.frames.specs.Lines.{frame, lineTicket, lineColumns, lineWords, lineBad, readNumber}
+use Rattle.frames.proofs.lines.RoundTrip.{read-back}
 use Rattle.runs.specs.Run.{Lent, State, Tell, Event, opens, replies, comes, discards, telling, readFrom, Brings, replied, step}
 use Rattle.runs.specs.Said.{said, Refused}
 

@@ -11,7 +11,7 @@ use borrow.Author.Tests.{eq-eqb}
 use Rattle.laws.specs.Refusals.{Test, _⇒_, first}
 use Rattle.laws.proofs.Refusals.{not-answered, kept}
 use Rattle.arith.specs.Codec.{valueRoom}
-use Rattle.client.specs.Table.{malformed, pending}
+use Rattle.pending.specs.Table.{malformed, pending}
 use Rattle.client.specs.Reply.{lentBad, slotFor, rowFor, rowTests, replyNumber, closing}
 use Rattle.client.proofs.reply.Answers.{none-early, waiting}
 use Rattle.runs.specs.Run.{Lent, State, Tell, Event, telling, Brings}

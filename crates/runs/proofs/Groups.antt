@@ -9,9 +9,9 @@ use lib.Dec.{ltb, eqb}
 use lib.ListN.{length}
 use borrow.Author.Tests.{lt-ltb, le-ltb, eq-eqb, ne-eqb, eqb-true}
 use Rattle.laws.proofs.Refusals.{same-test, written}
-use Rattle.client.specs.Table.{pending, freshTable, freshNumber}
+use Rattle.pending.specs.Table.{pending, freshTable, freshNumber}
 use Rattle.client.proofs.Calls.{fresh-table-pending}
-use Rattle.client.proofs.table.Pending.{pending-below, taken-pending, closed-pending}
+use Rattle.pending.proofs.table.Pending.{pending-below, taken-pending, closed-pending}
 use Rattle.runs.specs.Run.{Lent, State, Event, start, Typed}
 use Rattle.runs.specs.Groups.{one, Grouped}
 use Rattle.runs.proofs.Steps.{Does, still, takes, closes, then, does-all}

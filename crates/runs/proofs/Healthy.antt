@@ -12,12 +12,12 @@ use Rattle.laws.proofs.Refusals.{written}
 use Rattle.laws.proofs.Splice.{length-splice}
 use Rattle.plain.proofs.matrix.Cells.{length-product}
 use Rattle.arith.specs.Codec.{valueRoom}
-use Rattle.client.specs.Table.{Sized, malformed, slotOf, freshTable, freshNumber}
+use Rattle.pending.specs.Table.{Sized, malformed, slotOf, freshTable, freshNumber}
 use Rattle.client.specs.Open.{Asked, secretOf, storedSecret}
 use Rattle.client.specs.Reply.{lentBad}
-use Rattle.client.proofs.table.Lengths.{fresh-sized, taken-sized, closed-sized}
-use Rattle.client.proofs.table.Slots.{slot-pending}
-use Rattle.client.proofs.table.Formed.{fresh-formed, taken-formed, closed-formed}
+use Rattle.pending.proofs.table.Lengths.{fresh-sized, taken-sized, closed-sized}
+use Rattle.pending.proofs.table.Slots.{slot-pending}
+use Rattle.pending.proofs.table.Formed.{fresh-formed, taken-formed, closed-formed}
 use Rattle.runs.specs.Run.{Lent, State, Event, asking, step, run, start, Fits, Typed}
 use Rattle.runs.proofs.Steps.{Does, still, takes, closes, then, does, does-all}
 

@@ -12,14 +12,14 @@ use borrow.Author.Tests.{lt-ltb, le-ltb, eq-eqb, ne-eqb, eqb-false}
 use Rattle.laws.specs.Lists.{row, splice}
 use Rattle.laws.proofs.Search.{some-holds}
 use Rattle.laws.proofs.Splice.{row-replaced}
-use Rattle.client.specs.declared.table.Table.{Table}
-use Rattle.client.specs.Table.{numberAt, digestAt, malformed, slotOf, pending}
+use Rattle.pending.specs.declared.table.Table.{Table}
+use Rattle.pending.specs.Table.{numberAt, digestAt, malformed, slotOf, pending}
 use Rattle.client.specs.Open.{storedSecret, openNumber}
 use Rattle.client.proofs.open.Answers.{succeeded}
-use Rattle.client.proofs.table.Tests.{numbered}
-use Rattle.client.proofs.table.Slots.{slot-pending, number-here, digest-here}
-use Rattle.client.proofs.table.Formed.{formed, one-slot}
-use Rattle.client.proofs.table.Pending.{pending-set}
+use Rattle.pending.proofs.table.Tests.{numbered}
+use Rattle.pending.proofs.table.Slots.{slot-pending, number-here, digest-here}
+use Rattle.pending.proofs.table.Formed.{formed, one-slot}
+use Rattle.pending.proofs.table.Pending.{pending-set}
 use Rattle.runs.specs.Run.{Lent, State, Ask, Event, opens, asking, step, run, Typed}
 use Rattle.runs.specs.Groups.{one}
 use Rattle.runs.proofs.Steps.{Does, does-all, took}

@@ -9,11 +9,11 @@ use lib.Dec.{ltb, eqb, eqb·suc-zero}
 use lib.ListN.{length}
 use Rattle.laws.specs.Refusals.{_⇒_, first, after}
 use Rattle.laws.specs.Lists.{splice}
-use Rattle.client.specs.Table.{pending, slotOf, taken, closed, wiped}
+use Rattle.pending.specs.Table.{pending, slotOf, taken, closed, wiped}
 use Rattle.client.specs.Open.{openNumber, storedSecret}
 use Rattle.client.specs.Reply.{Received, replyNumber, closing}
 use Rattle.client.specs.Discard.{discardNumber}
-use Rattle.client.specs.Lines.{lineBad, lineColumns, readNumber}
+use Rattle.frames.specs.Lines.{lineBad, lineColumns, readNumber}
 use Rattle.client.proofs.open.Answers.{Ready, succeeded}
 use Rattle.client.proofs.reply.Answers.{none-early, waiting}
 use Rattle.client.proofs.discard.Answers.{Accepted, accepted}

@@ -9,9 +9,9 @@ use borrow.Author.Tests.{eqb-true, eqb-false, eq-eqb}
 use Rattle.laws.specs.Lists.{row, splice}
 use Rattle.laws.proofs.Refusals.{neither}
 use Rattle.laws.proofs.Splice.{row-kept}
-use Rattle.client.specs.Table.{numberAt, slotOf}
+use Rattle.pending.specs.Table.{numberAt, slotOf}
 use Rattle.client.specs.Open.{storedSecret}
-use Rattle.client.proofs.table.Slots.{Kept, slot-pending, number-here, taken-others, closed-others}
+use Rattle.pending.proofs.table.Slots.{Kept, slot-pending, number-here, taken-others, closed-others}
 use Rattle.runs.specs.Run.{Lent, State, asking}
 use Rattle.runs.proofs.Steps.{Does, still, takes, closes, then}
 use Rattle.runs.proofs.Healthy.{Healthy, length-stored, slot-fits, does-healthy}

@@ -7,11 +7,11 @@ use mathlib.Core.List.{List, [], _∷_}
 use lib.ListN.{length}
 use lib.Dec.{ltb, eqb}
 use Rattle.laws.specs.Refusals.{after}
-use Rattle.client.specs.Table.{pending, slotOf}
+use Rattle.pending.specs.Table.{pending, slotOf}
 use Rattle.client.specs.Open.{openNumber}
 use Rattle.client.specs.Reply.{slotFor, replyNumber, closing}
 use Rattle.client.specs.Discard.{discardNumber}
-use Rattle.client.specs.Lines.{readNumber}
+use Rattle.frames.specs.Lines.{readNumber}
 use Rattle.runs.specs.Said.{said}
 use Rattle.runs.specs.Run.{Lent, State, Tell, Event, opens, replies, comes, discards, asking, telling, readFrom, step, run}
 

@@ -5,12 +5,12 @@ use Prim.Native.Nat.{ℕ}
 use mathlib.Core.List.{List, [], _∷_}
 use lib.ListN.{length, take}
 use Rattle.laws.specs.Refusals.{after}
-use Rattle.client.specs.declared.table.Table.{Table}
-use Rattle.client.specs.Table.{freshAfter}
+use Rattle.pending.specs.declared.table.Table.{Table}
+use Rattle.pending.specs.Table.{freshAfter}
 use Rattle.client.specs.Open.{Asked, asked, openOf, openLeft}
 use Rattle.client.specs.Reply.{Received, received, replyOf, replySlab}
 use Rattle.client.specs.Discard.{discardTable, discardSlab}
-use Rattle.client.specs.Lines.{readNumber, readTicket, readColumns, readAfter}
+use Rattle.frames.specs.Lines.{readNumber, readTicket, readColumns, readAfter}
 
 -- what every call of a run is lent alike: n and R, the public matrix A, and a hint, which may be any
 pub record Lent : Type 0 where

@@ -8,7 +8,7 @@ use Rattle.laws.specs.Refusals.{after}
 use Rattle.client.specs.Open.{openOf, openLeft}
 use Rattle.client.specs.Reply.{replyOf, replyValue}
 use Rattle.client.specs.Discard.{discardNumber}
-use Rattle.client.specs.Lines.{readNumber, readTicket, readColumns, readAfter}
+use Rattle.frames.specs.Lines.{readNumber, readTicket, readColumns, readAfter}
 use Rattle.runs.specs.Run.{Lent, State, Event, opens, replies, comes, discards, asking, telling, readFrom, step}
 
 pub record Said : Type 0 where

@@ -10,9 +10,11 @@ use types.Run.{OneOf, miss}
 use denote.Enum.Declared.{tagOf}
 use Rattle.laws.specs.Refusals.{_⇒_}
 use Rattle.laws.proofs.Refusals.{passed}
-use Rattle.client.specs.Table.{malformed, pending}
+use Rattle.pending.specs.Table.{malformed, pending, closable}
+use Rattle.pending.proofs.table.Formed.{few-columns}
+use Rattle.pending.proofs.table.Answers.{closes}
 use Rattle.client.specs.Discard.{discardingNumber, discardNumber}
-use Rattle.client.specs.declared.table.Table.{Table}
+use Rattle.pending.specs.declared.table.Table.{Table}
 use Rattle.client.specs.declared.discard.Discarding.{Discarding}
 use Rattle.client.specs.declared.discard.Discarding.the-variants.{Done, Malformed, Shape, NotPending}
 use Rattle.client.proofs.discard.Discarding.{the-type}
@@ -41,3 +43,7 @@ accepted t slab ticket e =
       whole = eqb-true _ _ (not-false _ (q .0));
       waiting = not-false _ (passed (not (pending t ticket)) 9 [] (q .1) .0);
     }
+
+-- so the ticket can be closed
+pub can-close : (t : Table) (slab ticket : ℕ) → Accepted t slab ticket → closable t slab ticket ≡ true
+can-close t slab ticket p = closes t slab ticket (p .waiting) (p .whole) (few-columns t (p .well))

@@ -11,17 +11,17 @@ use lib.ListN.{length, replicate}
 use borrow.Author.Tests.{eqb-false, ne-eqb}
 use types.Run.{OneOf, miss}
 use denote.Enum.Declared.{tagOf}
-use Rattle.laws.specs.Refusals.{Test, _⇒_, first, after, outside}
+use Rattle.laws.specs.Refusals.{_⇒_, first, after, outside}
 use Rattle.laws.specs.Lists.{splice, laid}
 use Rattle.laws.proofs.Refusals.{passed, refused-before, Clear, all-clear, clear-before, not-answered}
 use Rattle.leaves.specs.Positions.{positionsBad}
-use Rattle.client.specs.declared.table.Table.{Table}
+use Rattle.pending.specs.declared.table.Table.{Table}
 use Rattle.client.specs.declared.open.Opening.{Opening}
 use Rattle.client.specs.declared.open.Opening.the-variants as opening
-use Rattle.client.specs.Table.{malformed, digestPending, full, slotOf, taken}
+use Rattle.pending.specs.Table.{malformed, digestPending, full, slotOf, taken}
 use Rattle.client.specs.Open.{Asked, askedBad, bothRead, eitherShort, wraps, marked, noisyOf, storedSecret, openTests, early, openNumber}
 use Rattle.client.specs.Open.{OpenSaid, openingNumber, openingTicket, openingRead, openOf, left, openLeft}
-use Rattle.client.proofs.table.Slots.{slot-free}
+use Rattle.pending.proofs.table.Slots.{slot-free}
 use Rattle.client.proofs.open.Opening.{the-type}
 use Rattle.client.proofs.open.Sizes.{Limited, limited, Shaped, shaped}
 
@@ -46,30 +46,7 @@ module _ (o : Opening) (t k : ℕ) (told : o ≡ opening.Ticket t k) where
   pub read-told : (read : ℕ) → openingRead o ≡ after (openingNumber o) read 0 → k ≡ read
   read-told read e = rw told at e
 
--- the tests: 4, 5, 7, 8, 9; and then 3
-abbrev pub placeTests : Asked → List Test
-placeTests a =
-    outside 1 1431655765 (a .interval) ⇒ 4
-    ∷ positionsBad (a .r) (a .positions) ⇒ 5
-    ∷ digestPending (a .table) (a .digest) ⇒ 7
-    ∷ full (a .table) ⇒ 8
-    ∷ eqb (a .table .next) 4294967295 ⇒ 9
-    ∷ []
-
-abbrev shortTest : Asked → List Test
-shortTest a = eitherShort (a .interval) (a .n) (a .r) (a .words) ⇒ 3 ∷ []
-
 module _ (a : Asked) where
-  -- the first step, past its first two tests
-  module _ (well : malformed (a .table) ≡ false) (shape : askedBad a ≡ false) where
-    pub place-refused : 0 < first (placeTests a) → first (placeTests a) ≡ early a
-    unfolding early
-    place-refused h = simp (well, shape) (sym (refused-before (placeTests a) (shortTest a) h))
-
-    pub place-passed : first (placeTests a) ≡ 0 → early a ≡ first (shortTest a)
-    unfolding early
-    place-passed e = simp (well, shape) (clear-before (placeTests a) (shortTest a) (all-clear (placeTests a) tt e))
-
   -- the number of the whole
   refused-early : 0 < early a → openNumber a ≡ early a
   unfolding early openNumber

@@ -1,24 +1,16 @@
 -- What a table and a shape that were not refused say.
-use mathlib.Core.Path.{_≡_, ap, _∙_}
-use mathlib.Core.Bool.{true, false, not, _||_}
-use mathlib.Core.List.{List}
-use Prim.Native.Nat.{ℕ, _*_, _<_, _≤_}
-use native.Mathlib.Omega.{arith}
+use mathlib.Core.Path.{_≡_}
+use mathlib.Core.Bool.{false, not, _||_}
+use Prim.Native.Nat.{ℕ, _*_, _≤_}
 use lib.Dec.{ltb, eqb}
-use borrow.Author.Tests.{ltb-false, lt-ltb, le-ltb, eqb-true, not-false}
-use mir.Val.{Val}
-use denote.Laws.{Is}
-use denote.Struct.Declared.{row}
+use borrow.Author.Tests.{ltb-false, eqb-true, not-false}
 use Rattle.laws.specs.Refusals.{outside}
 use Rattle.laws.proofs.Refusals.{neither, inside}
-use Rattle.laws.proofs.Search.{some-lowest, lowest-le}
 use Rattle.arith.specs.Codec.{columnsBad}
-use Rattle.client.specs.declared.table.Table.{Table}
-use Rattle.client.specs.Table.{malformed, full, slotOf}
+use Rattle.pending.specs.declared.table.Table.{Table}
+use Rattle.pending.specs.Table.{malformed}
 use Rattle.client.specs.Open.{shapeBad}
-use Rattle.client.proofs.table.Table.{the-type}
-use Rattle.client.proofs.table.Tests.{numbered}
-use Rattle.client.proofs.table.Formed.{formed}
+use Rattle.pending.proofs.table.Formed.{formed}
 
 -- a table's width and its columns are within their limits
 pub record Limited (t : Table) : Type 0 where
@@ -34,19 +26,6 @@ limited t h =
     let p = neither (outside 1 512 (t .columns)) (ltb (t .columns * t .b) 264) (formed t h .columns-in) in
     let c = inside 1 512 (t .columns) (p .0) in
     record { b-least = b .0; b-most = b .1; columns-least = c .0; columns-most = c .1 }
-
--- a table is full exactly where its lowest free slot is none of the 64
-module _ (t : Table) where
-  full-is : full t ≡ not (ltb (slotOf t 0) 64)
-  unfolding full
-  full-is = ap not (some-lowest (numbered t 0) 64)
-
-  pub none-free : slotOf t 0 ≡ 64 → full t ≡ true
-  none-free e = full-is ∙ ap not (le-ltb (slotOf t 0) 64 (omega arith))
-
-  pub some-free : ¬ (slotOf t 0 ≡ 64) → full t ≡ false
-  some-free ne =
-      let l : slotOf t 0 < 64 = omega (arith, lowest-le (numbered t 0) 64) in full-is ∙ ap not (lt-ltb (slotOf t 0) 64 l)
 
 pub record Shaped (columns n r slab matrix hint secret error query : ℕ) : Type 0 where
   pub n-least : 1 ≤ n
@@ -92,7 +71,3 @@ shaped columns n r slab matrix hint secret error query h =
       error-whole = same error r (q .1);
       query-roomy = ltb-false query r (p .1);
     }
-
--- a ticket number is a word, as a function is told on entry
-pub next-fits : (t : Table) (vs : List Val) → Is (row the-type) t vs → t .next < 4294967296
-next-fits t vs p = p .1 .1 .1 .1 .0 .1

@@ -14,14 +14,15 @@ use Rattle.laws.specs.Refusals.{Test, _⇒_, first, after}
 use Rattle.laws.specs.Lists.{row, laid}
 use Rattle.laws.proofs.Refusals.{neither, refused-before, Clear, all-clear, clear-before, not-answered, kept}
 use Rattle.arith.specs.Codec.{valueRoom, valueLength, valueOf}
-use Rattle.client.specs.declared.table.Table.{Table}
+use Rattle.pending.specs.declared.table.Table.{Table}
 use Rattle.client.specs.declared.reply.Reply.{Reply}
 use Rattle.client.specs.declared.reply.Reply.the-variants as reply
-use Rattle.client.specs.Table.{malformed, pending, closed, wiped}
+use Rattle.pending.specs.Table.{malformed, pending, closed, wiped, closable}
 use Rattle.client.specs.Reply.{Received, lentBad, recovered, slotFor, rowFor, rowTests, rowNumber, replyNumber, closing}
 use Rattle.client.specs.Reply.{replyingNumber, replyingLength, replyLength, replySaid, replyOf, replySlab, replyValue}
-use Rattle.client.proofs.table.Slots.{slot-pending}
-use Rattle.client.proofs.table.Formed.{Formed, formed}
+use Rattle.pending.proofs.table.Slots.{slot-pending}
+use Rattle.pending.proofs.table.Formed.{Formed, formed, few-columns}
+use Rattle.pending.proofs.table.Answers.{closes}
 use Rattle.client.proofs.reply.Reply.{the-type}
 
 -- an answer other than a value, as a `let .. else` tells it
@@ -122,6 +123,9 @@ module _ (a : Received) where
 
     pub waiting : pending (a .table) (a .ticket) ≡ true
     waiting = not-false _ (clear .1 .1 .0)
+
+    pub can-close : closable (a .table) (length (a .slab)) (a .ticket) ≡ true
+    can-close = closes (a .table) (length (a .slab)) (a .ticket) waiting (lent .0) (few-columns (a .table) (clear .0))
 
     pub slot-lt : slotFor a < 64
     slot-lt = slot-pending (a .table) (a .ticket) waiting .0

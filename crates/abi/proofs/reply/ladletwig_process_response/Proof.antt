@@ -1,7 +1,7 @@
 -- The answer, taken apart, says what the reply says.
 use mathlib.Core.Path.{_≡_, _∙_}
 use Prim.Native.Nat.{ℕ}
-use Rattle.client.specs.declared.table.Table.{Table}
+use Rattle.pending.specs.declared.table.Table.{Table}
 use Rattle.client.specs.Reply.{ReplySaid}
 use borrow.Author.Needs.{needs}
 use Rattle.abi.proofs.reply.ladletwig_process_response.Statement.{statement}

@@ -5,8 +5,8 @@ use borrow.Author.Needs.{needs}
 use borrow.Author.Tests.{eq-eqb, ne-eqb}
 use Rattle.laws.specs.Refusals.{outside}
 use Rattle.leaves.specs.Positions.{positionsBad}
-use Rattle.client.specs.Table.{digestPending, full}
-use Rattle.client.proofs.open.Sizes.{none-free, some-free}
+use Rattle.pending.specs.Table.{digestPending, full}
+use Rattle.pending.proofs.table.Slots.{none-free, some-free}
 use Rattle.client.proofs.open.place_refusal.Statement.{statement}
 use Rattle.client.proofs.open.place_refusal.Tie as tie
 

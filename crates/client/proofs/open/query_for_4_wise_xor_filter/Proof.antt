@@ -12,9 +12,9 @@ use Rattle.laws.proofs.Refusals.{kept}
 use Rattle.plain.specs.Matrix.{times}
 use Rattle.leaves.specs.Positions.{positionsBad}
 use Rattle.arith.specs.Sampler.{given}
-use Rattle.client.specs.Table.{slotOf}
+use Rattle.pending.specs.Table.{slotOf}
 use Rattle.client.specs.Open.{Asked, asked, unread, bothRead, secretOf, errorOf, noisy, noisyOf, wraps, marked, early, openingNumber}
-use Rattle.client.proofs.open.Sizes.{next-fits}
+use Rattle.pending.proofs.table.Lengths.{next-fits}
 use Rattle.client.proofs.open.Answers.{refusing, ticket-told, read-told, Ready, ready, refused, wrapped, opened, said-same, left-same}
 use Rattle.client.proofs.open.query_for_4_wise_xor_filter.Statement.{statement}
 use Rattle.client.proofs.open.query_for_4_wise_xor_filter.Tie as tie
@@ -32,12 +32,13 @@ module _ (c : tie.After-known-told) where
   planned = c .before .before .before
 
   abbrev start : tie.Start
-  start = planned .before .before .before .before .before .before .before .before .before .before .before .before
+  start = planned .before .before .before .before .before .before .before .before
 
   abbrev call : Asked
   call = lent start
 
   none : early call ≡ 0
+  unfolding early
   none = sym (planned .plan .ensures .0) ∙ ap openingNumber (c .before .answer .given .1)
 
   good : Ready call
@@ -125,22 +126,11 @@ plan-requires c κs = search needs
 enum-known-answer : tie.Need-enum-known-answer
 enum-known-answer c = search needs
 
-same-length : tie.Need-same-length
-same-length c = search needs
-
-same-length-2 : tie.Need-same-length-2
-same-length-2 c = search needs
-
-same-length-3 : tie.Need-same-length-3
-same-length-3 c = search needs
-
-same-length-4 : tie.Need-same-length-4
-same-length-4 c = search needs
-
 returns : tie.Need-returns
+unfolding early
 returns c =
     let p = c .before .plan in
-    let a = lent (c .before .before .before .before .before .before .before .before .before .before .before .before .before) in
+    let a = lent (c .before .before .before .before .before .before .before .before .before) in
     let some : 0 < openingNumber (p .result) = refusing (p .result) (c .match .keys2) in
     let r = refused a (rw (p .ensures .0) at some) in (
       said-same (p .ensures .0) (p .ensures .1 .0 ∙ sym (kept _ _ _ some)) (p .ensures .1 .1 ∙ sym (kept _ _ _ some)) refl ∙ sym (r .0),
@@ -172,17 +162,11 @@ zero-requires c κs = search needs
 zero-requires-2 : tie.Need-zero-requires-2
 zero-requires-2 c κs = search needs
 
-same-length-5 : tie.Need-same-length-5
-same-length-5 c = search needs
+same-length : tie.Need-same-length
+same-length c = search needs
 
-same-length-6 : tie.Need-same-length-6
-same-length-6 c = search needs
-
-same-length-7 : tie.Need-same-length-7
-same-length-7 c = search needs
-
-same-length-8 : tie.Need-same-length-8
-same-length-8 c = search needs
+same-length-2 : tie.Need-same-length-2
+same-length-2 c = search needs
 
 returns-2 : tie.Need-returns-2
 returns-2 c =
@@ -216,17 +200,17 @@ store-requires c κs =
       ),
     )
 
-same-length-9 : tie.Need-same-length-9
-same-length-9 c = search needs
+same-length-3 : tie.Need-same-length-3
+same-length-3 c = search needs
 
-same-length-10 : tie.Need-same-length-10
-same-length-10 c = search needs
+same-length-4 : tie.Need-same-length-4
+same-length-4 c = search needs
 
-same-length-11 : tie.Need-same-length-11
-same-length-11 c = search needs
+same-length-5 : tie.Need-same-length-5
+same-length-5 c = search needs
 
-same-length-12 : tie.Need-same-length-12
-same-length-12 c = search needs
+same-length-6 : tie.Need-same-length-6
+same-length-6 c = search needs
 
 returns-3 : tie.Need-returns-3
 returns-3 c =
@@ -254,24 +238,18 @@ query-for-4-wise-xor-filter-spec =
     (tie.spec
     plan-requires
     enum-known-answer
-    same-length
-    same-length-2
-    same-length-3
-    same-length-4
     returns
     draw-requires
     add-product-requires
     wraps-at-requires
     zero-requires
     zero-requires-2
-    same-length-5
-    same-length-6
-    same-length-7
-    same-length-8
+    same-length
+    same-length-2
     returns-2
     store-requires
-    same-length-9
-    same-length-10
-    same-length-11
-    same-length-12
+    same-length-3
+    same-length-4
+    same-length-5
+    same-length-6
     returns-3)

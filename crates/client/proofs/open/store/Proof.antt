@@ -3,12 +3,14 @@
 use mathlib.Core.Path.{ap, _∙_}
 use mathlib.Core.List.{List}
 use Prim.Native.Nat.{ℕ, _*_}
+use native.Mathlib.Omega.{arith}
 use lib.ListN.{length, replicate}
 use borrow.Author.Needs.{needs}
 use Rattle.laws.specs.Lists.{splice, laid}
 use Rattle.laws.proofs.Lists.{length-build}
 use Rattle.plain.specs.Matrix.{times}
-use Rattle.client.specs.Table.{taken}
+use Rattle.pending.proofs.table.Slots.{some-free}
+use Rattle.pending.proofs.table.Answers.{takes}
 use Rattle.client.specs.Open.{marked}
 use Rattle.client.proofs.open.store.Statement.{statement}
 use Rattle.client.proofs.open.store.Tie as tie
@@ -31,8 +33,8 @@ zero-requires c κs = search needs
 zero-requires-2 : tie.Need-zero-requires-2
 zero-requires-2 c κs = search needs
 
-take-slot-requires : tie.Need-take-slot-requires
-take-slot-requires c κs = search needs
+take-requires : tie.Need-take-requires
+take-requires c κs = search needs
 
 same-length : tie.Need-same-length
 same-length c = search needs
@@ -55,11 +57,12 @@ returns c =
     let copied = put .before .before .before .before .before in
     let made = copied .before .before .before .before .before in
     let found = made .before .before in
-    let a = found .before .before .before .before .before .before .args in
+    let st = found .before .before .before .before .before .before in
+    let a = st .args in
     let key = times 1 (length (a .secret .now)) (a .table .columns) (a .secret .now) (a .hint .now) in
     let slot = found .slot-of .ensures in
     let long = ap length (made .mark .ensures) ∙ length-build (length (a .error .now)) _ in (
-      c .take-slot .ensures ∙ ap (λ (s : ℕ). taken (a .table) s (a .digest)) slot,
+      c .take .ensures ∙ takes (a .table) (a .digest) (some-free (a .table) (λ e. omega arith)) (st .pre .1 .0 .1),
       (
         put .put-secret .ensures ∙ ap (λ (s : ℕ). splice (s * a .table .columns) key (a .slab .now)) slot,
         (
@@ -82,7 +85,7 @@ store-spec =
     put-secret-requires
     zero-requires
     zero-requires-2
-    take-slot-requires
+    take-requires
     same-length
     same-length-2
     same-length-3

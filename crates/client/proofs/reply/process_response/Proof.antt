@@ -2,14 +2,12 @@
 use mathlib.Core.Path.{_≡_, sym, ap, _∙_}
 use mathlib.Core.Bool.{true}
 use mathlib.Core.List.{List}
-use Prim.Native.Nat.{ℕ, _<_}
+use Prim.Native.Nat.{ℕ}
 use borrow.Author.Needs.{needs}
 use borrow.Author.Tests.{not-false, not-true}
 use Rattle.laws.specs.Refusals.{first}
-use Rattle.arith.proofs.codec.Sizes.{sized}
-use Rattle.client.specs.Table.{closed, wiped}
 use Rattle.client.specs.Reply.{Received, received, replyNumber, closing}
-use Rattle.client.proofs.reply.Answers.{early, none-early, Told, left-open, shut, well, lent, slot-lt}
+use Rattle.client.proofs.reply.Answers.{early, none-early, Told, left-open, shut, can-close}
 use Rattle.client.proofs.reply.process_response.Statement.{statement}
 use Rattle.client.proofs.reply.process_response.Tie as tie
 
@@ -61,16 +59,8 @@ returns c =
     let k = read (c .before) in
     left-open (a k) (k .read-response .result) (value k) (told k) (sym (closing-is (c .before)) ∙ not-true _ (c .if1 .taken))
 
-slot-of-requires : tie.Need-slot-of-requires
-slot-of-requires c κs = search needs
-
 close-requires : tie.Need-close-requires
-close-requires c κs =
-    let s = c .before in
-    let b = a (read (s .before .before)) in
-    let n = none (s .before) in
-    let l : s .slot-of .result < 64 = rw (s .slot-of .ensures) (slot-lt b n) in
-    (l, lent b n .0, sized _ _ (well b n .columns-in) .most)
+close-requires c κs = search needs
 
 same-length-3 : tie.Need-same-length-3
 same-length-3 c = search needs
@@ -82,12 +72,10 @@ returns-2 : tie.Need-returns-2
 returns-2 c =
     let done = c .before .before in
     let s = done .before .before in
-    let k = read (s .before .before) in
-    let b = a k in
-    let slot = s .slot-of .ensures in
-    shut b (k .read-response .result) (value k) (told k) (shuts (s .before)) (done .close .result) _
-    (done .close .ensures .0 ∙ ap (closed (b .table)) slot)
-    (done .close .ensures .1 ∙ ap (λ (i : ℕ). wiped (b .table .columns) i (b .slab)) slot)
+    let k = read (s .before) in
+    let can = can-close (a k) (none s) in
+    shut (a k) (k .read-response .result) (value k) (told k) (shuts s) (done .close .result) _
+    (rw can at (done .close .ensures .0)) (rw can at (done .close .ensures .1))
 
 pub process-response-spec : {M : Type 1} → statement M
 process-response-spec =
@@ -98,7 +86,6 @@ process-response-spec =
     same-length
     same-length-2
     returns
-    slot-of-requires
     close-requires
     same-length-3
     same-length-4

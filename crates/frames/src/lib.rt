@@ -1,0 +1,3 @@
+// Lines of either kind, for whoever writes or reads them. The public functions have no `requires`, and say their answer and
+// each lent buffer at exit as an equation with a definition of specs/.
+pub mod lines;

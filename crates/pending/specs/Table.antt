@@ -1,0 +1,124 @@
+-- Document 01, "Pending table": 64 slots, of which a free one has number 0; when a table is malformed; a slot taken and a
+-- slot closed.
+use mathlib.Core.Path.{_≡_}
+use Prim.Native.Nat.{ℕ, _+_, _*_}
+use mathlib.Core.Bool.{Bool, not, cond, _&&_, _||_}
+use mathlib.Core.List.{List, [], _∷_}
+use lib.ListN.{length, getD, set, replicate}
+use lib.Dec.{leb, eqb}
+use Rattle.laws.specs.Refusals.{_⇒_, first, after, widthBad}
+use Rattle.laws.specs.Lists.{row, splice}
+use Rattle.laws.specs.Search.{some, lowest}
+use Rattle.leaves.specs.Digests.{differs}
+use Rattle.arith.specs.Codec.{columnsBad}
+use Rattle.pending.specs.declared.table.Table.{Table}
+use Rattle.pending.specs.declared.table.Making.{Making}
+use Rattle.pending.specs.declared.table.Making.the-variants as making
+
+-- what the types of a table's arrays say, for laws about a table that no call has shown
+pub record Sized (t : Table) : Type 0 where
+  pub numbers : length (t .numbers) ≡ 64
+  pub digests : length (t .digests) ≡ 2048
+
+-- slot s: its number, its digest bytes; it is used where its number is not 0
+abbrev pub numberAt : Table → ℕ → ℕ
+numberAt t s = getD (t .numbers) s 0
+
+abbrev pub digestAt : Table → ℕ → List ℕ
+digestAt t s = row 32 (t .digests) s
+
+abbrev pub used : Table → ℕ → Bool
+used t s = not (eqb (numberAt t s) 0)
+
+-- slots q and s are both used, and equal in number or digest
+unfoldable pub alike : Table → ℕ → ℕ → Bool
+alike t q s =
+    (used t q && used t s)
+    && (eqb (numberAt t q) (numberAt t s) || not (differs (digestAt t q) (digestAt t s)))
+
+-- 18: b, C or C·b outside limits; next number 0; a used number at or above next; two used slots equal in number or digest;
+-- a free slot with a nonzero digest byte
+unfoldable pub malformed : Table → Bool
+malformed t =
+    widthBad (t .b)
+    || columnsBad (t .b) (t .columns)
+    || eqb (t .next) 0
+    || some 64 (λ s. used t s && leb (t .next) (numberAt t s))
+    || some 64 (λ s. some s (λ q. alike t q s))
+    || some 64 (λ s. not (used t s) && differs (digestAt t s) (replicate 32 0))
+
+-- the lowest slot with this number, or 64 where none has it
+abbrev pub slotOf : Table → ℕ → ℕ
+slotOf t number = lowest 64 (λ s. eqb (numberAt t s) number)
+
+-- a ticket is pending: it is the number of a slot (0 never is)
+unfoldable pub pending : Table → ℕ → Bool
+pending t ticket = not (eqb ticket 0) && some 64 (λ s. eqb (numberAt t s) ticket)
+
+-- 7: the digest is already pending
+unfoldable pub digestPending : Table → List ℕ → Bool
+digestPending t digest = some 64 (λ s. used t s && not (differs (digestAt t s) digest))
+
+-- a digest differs from slot s's; from no slot's, where s is none of the 64
+unfoldable pub differsAt : Table → ℕ → List ℕ → Bool
+differsAt t s digest = leb 64 s || differs digest (digestAt t s)
+
+-- 8: no free slot
+unfoldable pub full : Table → Bool
+full t = not (some 64 (λ s. eqb (numberAt t s) 0))
+
+-- slot s with the next number and this digest; next goes up by exactly one
+abbrev pub taken : Table → ℕ → List ℕ → Table
+taken t s digest = record {
+  b = t .b;
+  columns = t .columns;
+  next = t .next + 1;
+  numbers = set (t .numbers) s (t .next);
+  digests = splice (s * 32) digest (t .digests);
+}
+
+-- the lowest free slot taken; a table that is full, or whose numbers are used up, stays as it is
+abbrev pub takeAfter : Table → List ℕ → Table
+takeAfter t digest = cond (full t || eqb (t .next) 4294967295) t (taken t (slotOf t 0) digest)
+
+-- slot s freed, its digest zeroed
+abbrev pub closed : Table → ℕ → Table
+closed t s = record {
+  b = t .b;
+  columns = t .columns;
+  next = t .next;
+  numbers = set (t .numbers) s 0;
+  digests = splice (s * 32) (replicate 32 0) (t .digests);
+}
+
+-- a slab of `columns` words a slot, those of slot s zeroed
+abbrev pub wiped : ℕ → ℕ → List ℕ → List ℕ
+wiped columns s slab = splice (s * columns) (replicate columns 0) slab
+
+-- a ticket can be closed: it is pending, and the slab has 64·C words, C at most 512 (as where the table is not malformed)
+unfoldable pub closable : Table → ℕ → ℕ → Bool
+closable t slab ticket = pending t ticket && (leb (t .columns) 512 && eqb slab (64 * t .columns))
+
+-- its slot freed and wiped; else all stays as it is
+abbrev pub closeAfter : Table → ℕ → ℕ → Table
+closeAfter t slab ticket = cond (closable t slab ticket) (closed t (slotOf t ticket)) t
+
+abbrev pub wipeAfter : Table → List ℕ → ℕ → List ℕ
+wipeAfter t slab ticket = cond (closable t (length slab) ticket) (wiped (t .columns) (slotOf t ticket) slab) slab
+
+-- all 64 slots free, 2,048 digest bytes all zero
+abbrev pub freshTable : ℕ → ℕ → ℕ → Table
+freshTable b columns next =
+    record { b = b; columns = columns; next = next; numbers = replicate 64 0; digests = replicate 2048 0 }
+
+abbrev pub makingNumber : Making → ℕ
+makingNumber making.Done = 0
+makingNumber making.Width = 1
+makingNumber making.Shape = 2
+
+-- what `fresh` answers, and the table then: next number 1; on a refusal all zero
+unfoldable pub freshNumber : ℕ → ℕ → ℕ
+freshNumber b columns = first (widthBad b ⇒ 1 ∷ columnsBad b columns ⇒ 2 ∷ [])
+
+abbrev pub freshAfter : ℕ → ℕ → Table
+freshAfter b columns = after (freshNumber b columns) (freshTable b columns 1) (freshTable 0 0 0)

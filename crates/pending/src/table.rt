@@ -1,0 +1,317 @@
+// Document 01, "Pending table": 64 slots by value. Their secrets lie in a lent slab, which is not part of the table. What a
+// caller hands in is tested by its own refusals; here a slot, ticket or slab that is none leaves everything as it was.
+use arith::codec;
+use leaves::digests;
+use leaves::limits;
+use leaves::words;
+ghost use mathlib.Core.Path.{_≡_};
+ghost use mathlib.Core.Bool.{not, _&&_};
+ghost use Prim.Native.Nat.{_+_, _*_, _<_, _≤_};
+ghost use lib.ListN.{length, replicate};
+ghost use lib.Dec.{leb};
+ghost use Rattle.laws.specs.Lists.{splice};
+ghost use Rattle.laws.specs.Search.{some};
+ghost use Rattle.leaves.specs.Digests.{differs};
+ghost use Rattle.pending.specs.Table.{numberAt, digestAt, used, alike, malformed};
+ghost use Rattle.pending.specs.Table.{slotOf, pending, digestPending, differsAt, taken, takeAfter, closed, wiped, closable, closeAfter, wipeAfter};
+ghost use Rattle.pending.specs.Table.{makingNumber, freshNumber, freshTable, freshAfter};
+
+#[repr(C)]
+pub struct Table {
+    pub b: u32,
+    pub columns: usize,
+    pub next: u32,
+    pub numbers: [u32; 64],
+    pub digests: [u8; 2048],
+}
+
+// What `fresh` answers.
+pub enum Making {
+    // 0: the table is as 01 says.
+    Done,
+    // 1: b is outside 4..=14.
+    Width,
+    // 2: C is outside 1..=512, or C·b below 264.
+    Shape,
+}
+
+// On a refusal the table is all zero, which no entry accepts.
+pub struct Made {
+    pub answer: Making,
+    pub table: Table,
+}
+
+// A table with every slot free.
+fn empty(b: u32, columns: usize, next: u32) -> Table
+    ensures { λ t. ⌜ t ≡ freshTable b columns next ⌝ }
+{
+    Table {
+        b: b,
+        columns: columns,
+        next: next,
+        numbers: [0u32; 64],
+        digests: [0u8; 2048],
+    }
+}
+
+// A new table, and so a new history.
+pub fn fresh(b: u32, columns: usize) -> Made
+    ensures { λ r. ⌜ makingNumber (r .answer) ≡ freshNumber b columns ⌝ }
+    ensures { λ r. ⌜ r .table ≡ freshAfter b columns ⌝ }
+{
+    if limits::width_bad(b) {
+        return Made {
+            answer: Making::Width,
+            table: empty(0, 0, 0),
+        };
+    }
+    if codec::columns_bad(b, columns) {
+        return Made {
+            answer: Making::Shape,
+            table: empty(0, 0, 0),
+        };
+    }
+    Made {
+        answer: Making::Done,
+        table: empty(b, columns, 1),
+    }
+}
+
+// The 32 digest bytes of slot s.
+fn digest_of(table: Table, s: usize) -> [u8; 32]
+    requires { ⌜ s < 64 ⌝ }
+    ensures { λ d. ⌜ d ≡ digestAt table s ⌝ }
+{
+    let start = s * 32;
+    let mut digest = [0u8; 32];
+    let mut k: usize = 0;
+    while k < 32 {
+        digest[k] = table.digests[start + k];
+        k += 1;
+    }
+    digest
+}
+
+// A used number at or above next?
+fn number_ahead(table: Table) -> bool
+    ensures { λ r. ⌜ r ≡ some 64 (λ s. used table s && leb (table .next) (numberAt table s)) ⌝ }
+{
+    let mut s: usize = 0;
+    while s < 64 {
+        if table.numbers[s] != 0 && table.next <= table.numbers[s] {
+            return true;
+        }
+        s += 1;
+    }
+    false
+}
+
+// Are slots q and s both used, and equal in number or digest?
+fn both_alike(table: Table, q: usize, s: usize) -> bool
+    requires { ⌜ (q < 64) × (s < 64) ⌝ }
+    ensures { λ r. ⌜ r ≡ alike table q s ⌝ }
+{
+    if table.numbers[q] == 0 {
+        return false;
+    }
+    if table.numbers[s] == 0 {
+        return false;
+    }
+    if table.numbers[q] == table.numbers[s] {
+        return true;
+    }
+    !digests::digest_differs(digest_of(table, q), digest_of(table, s))
+}
+
+// Is slot s alike to one before it?
+fn alike_before(table: Table, s: usize) -> bool
+    requires { ⌜ s < 64 ⌝ }
+    ensures { λ r. ⌜ r ≡ some s (λ q. alike table q s) ⌝ }
+{
+    let mut q: usize = 0;
+    while q < s {
+        if both_alike(table, q, s) {
+            return true;
+        }
+        q += 1;
+    }
+    false
+}
+
+// Two used slots equal in number or digest?
+fn any_alike(table: Table) -> bool
+    ensures { λ r. ⌜ r ≡ some 64 (λ s. some s (λ q. alike table q s)) ⌝ }
+{
+    let mut s: usize = 0;
+    while s < 64 {
+        if alike_before(table, s) {
+            return true;
+        }
+        s += 1;
+    }
+    false
+}
+
+// A free slot with a nonzero digest byte?
+fn free_unclean(table: Table) -> bool
+    ensures { λ r. ⌜ r ≡ some 64 (λ s. not (used table s) && differs (digestAt table s) (replicate 32 0)) ⌝ }
+{
+    let mut s: usize = 0;
+    while s < 64 {
+        if table.numbers[s] == 0 && digests::digest_differs(digest_of(table, s), [0u8; 32]) {
+            return true;
+        }
+        s += 1;
+    }
+    false
+}
+
+// 18: is the table malformed?
+pub fn is_malformed(table: Table) -> bool
+    ensures { λ r. ⌜ r ≡ malformed table ⌝ }
+{
+    if limits::width_bad(table.b) {
+        return true;
+    }
+    if codec::columns_bad(table.b, table.columns) {
+        return true;
+    }
+    if table.next == 0 {
+        return true;
+    }
+    if number_ahead(table) {
+        return true;
+    }
+    if any_alike(table) {
+        return true;
+    }
+    free_unclean(table)
+}
+
+// The lowest slot with this number, or 64. A free slot has number 0.
+pub fn slot_of(table: Table, number: u32) -> usize
+    ensures { λ s. ⌜ s ≡ slotOf table number ⌝ }
+{
+    let mut slot: usize = 0;
+    while slot < 64 {
+        if table.numbers[slot] == number {
+            return slot;
+        }
+        slot += 1;
+    }
+    64
+}
+
+// 10, when not: is the ticket pending? 0 never is, since it is what a free slot has.
+pub fn is_pending(table: Table, ticket: u32) -> bool
+    ensures { λ r. ⌜ r ≡ pending table ticket ⌝ }
+{
+    if ticket == 0 {
+        return false;
+    }
+    slot_of(table, ticket) != 64
+}
+
+// 7: is the digest already pending?
+pub fn digest_pending(table: Table, digest: [u8; 32]) -> bool
+    ensures { λ r. ⌜ r ≡ digestPending table digest ⌝ }
+{
+    let mut s: usize = 0;
+    while s < 64 {
+        if table.numbers[s] != 0 && !digests::digest_differs(digest_of(table, s), digest) {
+            return true;
+        }
+        s += 1;
+    }
+    false
+}
+
+// 14: does this digest differ from slot s's in any byte? From none, where s is not one of the 64, every digest does.
+pub fn differs_at(table: Table, s: usize, digest: [u8; 32]) -> bool
+    ensures { λ r. ⌜ r ≡ differsAt table s digest ⌝ }
+{
+    if 64 <= s {
+        return true;
+    }
+    digests::digest_differs(digest, digest_of(table, s))
+}
+
+// Stores a digest in slot s.
+fn put_digest(digests: &mut [u8; 2048], s: usize, digest: [u8; 32])
+    requires { ⌜ (s < 64) × (length (now digests) ≡ 2048) ⌝ }
+    ensures { λ _. ⌜ now (digests .exit) ≡ splice (s * 32) digest (now (digests .entry)) ⌝ }
+{
+    let start = s * 32;
+    let mut k: usize = 0;
+    while k < 32 {
+        digests[start + k] = digest[k];
+        k += 1;
+    }
+}
+
+// The table with the next number and this digest in slot s.
+fn take_slot(table: Table, s: usize, digest: [u8; 32]) -> Table
+    requires { ⌜ (s < 64) × (table .next < 4294967295) ⌝ }
+    ensures { λ t. ⌜ t ≡ taken table s digest ⌝ }
+{
+    let mut t = table;
+    let number = t.next;
+    t.numbers[s] = number;
+    t.next = number + 1;
+    put_digest(&mut t.digests, s, digest);
+    t
+}
+
+// The table with the next number and this digest in its lowest free slot. Without a slot or a number it stays as it is.
+pub fn take(table: Table, digest: [u8; 32]) -> Table
+    ensures { λ t. ⌜ t ≡ takeAfter table digest ⌝ }
+{
+    let s = slot_of(table, 0);
+    if s == 64 {
+        return table;
+    }
+    if table.next == 4294967295 {
+        return table;
+    }
+    take_slot(table, s, digest)
+}
+
+// Frees slot s, and wipes its digest and its secret words.
+fn close_slot(table: Table, slab: &mut [u32], s: usize) -> Table
+    requires { ⌜ (s < 64) × (length (now slab) ≡ 64 * table .columns) × (table .columns ≤ 512) ⌝ }
+    ensures { λ t. ⌜ t ≡ closed table s ⌝ }
+    ensures { λ _. ⌜ now (slab .exit) ≡ wiped (table .columns) s (now (slab .entry)) ⌝ }
+{
+    let start = s * table.columns;
+    let end = start + table.columns;
+    words::zero(&mut slab[start..end]);
+    let mut t = table;
+    t.numbers[s] = 0;
+    put_digest(&mut t.digests, s, [0u8; 32]);
+    t
+}
+
+// Is the ticket pending, and the slab, of this length, the table's?
+fn can_close(table: Table, slab: usize, ticket: u32) -> bool
+    ensures { λ r. ⌜ r ≡ closable table slab ticket ⌝ }
+{
+    if !is_pending(table, ticket) {
+        return false;
+    }
+    if 512 < table.columns {
+        return false;
+    }
+    slab == 64 * table.columns
+}
+
+// Frees the slot of a pending ticket, and wipes its digest and its secret words. Without such a ticket, or a slab of 64·C
+// words, both stay as they are.
+pub fn close(table: Table, slab: &mut [u32], ticket: u32) -> Table
+    ensures { λ t. ⌜ t ≡ closeAfter table (length (now (slab .entry))) ticket ⌝ }
+    ensures { λ _. ⌜ now (slab .exit) ≡ wipeAfter table (now (slab .entry)) ticket ⌝ }
+{
+    if !can_close(table, slab.len(), ticket) {
+        return table;
+    }
+    close_slot(table, slab, slot_of(table, ticket))
+}
