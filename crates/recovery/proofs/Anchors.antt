@@ -1,5 +1,5 @@
 -- Small numbers, computed, at which the definitions of specs/ can be held against the request by hand. A wrong server, a wrong
--- bound and masks that are left out each show here first.
+-- hint, a wrong bound and masks that are left out each show here first.
 use mathlib.Core.Path.{_≡_, refl}
 use mathlib.Core.List.{[], _∷_}
 use Rattle.laws.specs.Lists.{build, join}
@@ -9,11 +9,16 @@ use Rattle.plain.specs.Matrix.{grid, times}
 use Rattle.plain.specs.Bytes.{allBytes, matrixBytes, wordAt}
 use Rattle.frames.specs.Lines.{digit, hex, frame, digitValue, unhex, lineWords}
 use Rattle.recovery.specs.Noise.{signed, Quiet}
-use Rattle.recovery.specs.Store.{Store, served, servedLine, wanted}
+use Rattle.recovery.specs.Store.{Store, hintOf, served, servedLine, wanted}
 
 -- b 10, R 2, C 2: D has the rows [1 2] and [3 4]. C is too small for a table, which these definitions do not ask.
 abbrev small : Store
 small = record { b = 10; n = 1; r = 2; columns = 2; matrix = 1 ∷ 1 ∷ []; elements = 1 ∷ 2 ∷ 3 ∷ 4 ∷ [] }
+
+-- the hint: A, one row of ones, times D
+pub hint : hintOf small ≡ 4 ∷ 6 ∷ []
+unfolding build join sum grid times
+hint = refl
 
 -- the query [2 3] times D, and the line that answers it for ticket 7
 pub product : served small (2 ∷ 3 ∷ []) ≡ 11 ∷ 16 ∷ []

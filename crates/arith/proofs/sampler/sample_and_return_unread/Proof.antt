@@ -38,10 +38,10 @@ mul-result : tie.Need-mul-result
 mul-result c = omega (arith, inside c)
 
 sub-result : tie.Need-sub-result
-sub-result c = inside c
+sub-result c = omega (arith, inside c)
 
 part-result-start : tie.Need-part-result-start
-part-result-start c = inside c
+part-result-start c = omega (arith, inside c)
 
 part-result-end : tie.Need-part-result-end
 part-result-end c = search needs
