@@ -66,7 +66,6 @@ merge() {
     one=$work/libladletwig.a folder=$1
     shift
     for part in $parts; do set -- "$@" "$work/$part/target/$folder/lib$part.a"; done
-    rm -f "$one" "$root/target/$folder/libladletwig.a"
     "$tools/llvm-ar" qcsL "$one" "$@"
     hold_to_header "$one"
     mkdir -p "$root/target/$folder"
@@ -74,6 +73,7 @@ merge() {
     echo "archive: target/$folder/libladletwig.a has the $(wc -l < "$work/declared") functions of include/ladletwig.h"
 }
 
+rm -f "$root/target/staticlib/libladletwig.a" "$root/target/native/libladletwig.a" # none of an earlier run is linked
 make_parts
 merge staticlib
 [ "$machine" = x86_64 ] || merge native
