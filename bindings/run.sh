@@ -1,8 +1,8 @@
 #!/bin/sh
 # run.sh: the C program and the Rust tests over the proved archive; the last line says what ran. For x86-64 and aarch64:
 # on-aarch64.sh runs it on an emulated aarch64, from x86-64.
-# The archive is made by `rt staticlib abi`, unless LADLETWIG_ARCHIVE_DIR names a folder with an x86-64 libabi.a; on aarch64
-# native-archive.sh makes a second one of the same proof.
+# The archive is made by archive.sh, unless LADLETWIG_ARCHIVE_DIR names a folder with an x86-64 libladletwig.a. On aarch64
+# archive.sh makes two: the x86-64 one, and that in native/ for the machine's own cc and cargo.
 set -eu
 here=$(cd "$(dirname "$0")" && pwd)
 root=$(dirname "$here")
@@ -12,15 +12,6 @@ kit=${RATTLE_HOME:-$(dirname "$(dirname "$guide")")}
 work=$(mktemp -d)
 trap 'rm -rf "$work"' EXIT
 
-# On aarch64 one proof gives both archives: the x86-64 one, and native/ for the machine's own cc and cargo.
-make_archive() {
-    if [ "$machine" = x86_64 ]; then
-        (cd "$root" && rt staticlib abi)
-    else
-        "$here/native-archive.sh" "$root" abi "$root/target/native"
-    fi
-}
-
 # Our own few declarations stand for the C library's headers, which the kit doesn't have. The program is x86-64, as the
 # archive is: it runs under the kit's own loader, and on another processor under the kit's emulator.
 c_with_kit() {
@@ -29,7 +20,7 @@ c_with_kit() {
         -Wall -Wextra -Werror -pedantic -I "$here/c/freestanding" -I "$root/include" \
         -c "$here/c/lookup.c" -o "$work/lookup.o"
     "$tools/ld.lld" -pie --dynamic-linker /lib64/ld-linux-x86-64.so.2 -o "$work/lookup" \
-        "$lib/Scrt1.o" "$lib/crti.o" "$lib/crtbeginS.o" "$work/lookup.o" "$archives/libabi.a" \
+        "$lib/Scrt1.o" "$lib/crti.o" "$lib/crtbeginS.o" "$work/lookup.o" "$archives/libladletwig.a" \
         "$lib/libc.so.6" "$lib/libc_nonshared.a" "$lib/libgcc.a" "$lib/crtendS.o" "$lib/crtn.o"
     emulator=
     [ "$machine" = x86_64 ] || emulator=$tools/qemu-x86_64
@@ -41,7 +32,7 @@ c_with_kit() {
 # The machine's own compiler and headers must come to the same lines.
 c_with_cc() {
     cc -std=c99 -O2 -Wall -Wextra -Werror -pedantic -I "$root/include" \
-        "$here/c/lookup.c" "$linked/libabi.a" -o "$work/lookup-cc"
+        "$here/c/lookup.c" "$linked/libladletwig.a" -o "$work/lookup-cc"
     "$work/lookup-cc" > "$work/printed-cc"
     cmp "$work/printed-cc" "$work/printed"
     echo "bindings: the machine's cc gives the same lines"
@@ -57,7 +48,7 @@ if [ -n "${LADLETWIG_ARCHIVE_DIR:-}" ]; then
     linked=$archives
     [ "$machine" = x86_64 ] || linked=
 else
-    make_archive
+    "$here/archive.sh"
     archives=$root/target/staticlib
     linked=$archives
     [ "$machine" = x86_64 ] || linked=$root/target/native

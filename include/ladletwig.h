@@ -1,5 +1,5 @@
 /*
- * ladletwig.h: the C face of libabi.a (made by `rt staticlib abi`). C99 and C++, 64-bit targets.
+ * ladletwig.h: the C face of libladletwig.a (made by `bindings/archive.sh`). C99 and C++, 64-bit targets.
  *
  * Every function of the archive is proved: for all arguments it answers what document 01 says and touches no memory
  * but the buffers it was lent. The proof begins behind this boundary, so a caller in C has to keep to what Rust

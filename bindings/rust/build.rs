@@ -8,13 +8,13 @@ const FOLDER: &str = "LADLETWIG_ARCHIVE_DIR";
 fn main() {
     println!("cargo:rerun-if-env-changed={FOLDER}");
     let folder = folder();
-    let archive = folder.join("libabi.a");
+    let archive = folder.join("libladletwig.a");
     println!("cargo:rerun-if-changed={}", archive.display());
     if !archive.is_file() {
         missing(&archive);
     }
     println!("cargo:rustc-link-search=native={}", folder.display());
-    println!("cargo:rustc-link-lib=static=abi");
+    println!("cargo:rustc-link-lib=static=ladletwig");
 }
 
 fn folder() -> PathBuf {
@@ -27,7 +27,7 @@ fn folder() -> PathBuf {
 
 fn missing(archive: &Path) -> ! {
     eprintln!("ladletwig: no archive at {}", archive.display());
-    eprintln!("  Make it with `rt staticlib abi` in the root of the checkout,");
-    eprintln!("  or set {FOLDER} to the whole path of a folder that has libabi.a.");
+    eprintln!("  Make it with `bindings/archive.sh` of the checkout,");
+    eprintln!("  or set {FOLDER} to the whole path of a folder that has libladletwig.a.");
     process::exit(1)
 }

@@ -1,8 +1,8 @@
 //! Private lookups over a proved archive.
 //!
-//! A terminal asks a host for a member's record without telling it which member. The work is done by `libabi.a`,
-//! whose every function is proved against the project's document 01; this crate puts safe Rust types around it and
-//! adds nothing of its own.
+//! A terminal asks a host for a member's record without telling it which member. The work is done by
+//! `libladletwig.a`, whose every function is proved against the project's document 01; this crate puts safe Rust types
+//! around it and adds nothing of its own.
 //!
 //! - Slices are handed on as they are. A wrong length isn't a panic: it reaches the library and gets its number.
 //! - Nothing is allocated here or there, and nothing is kept: table, slab and work space belong to the caller.

@@ -1,9 +1,9 @@
 // Calls whose mutable buffers have bytes.
 use super::line;
 use super::print;
-use abi::bytes;
-use abi::codec;
-use abi::lines;
+use abi_arith::codec;
+use abi_lines::lines;
+use abi_plain::bytes;
 
 // The buffer k as a digest.
 pub(crate) fn digest(w: &[u32], k: usize) -> [u8; 32] {

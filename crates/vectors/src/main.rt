@@ -7,8 +7,8 @@ mod print;
 mod state;
 mod words;
 
-use abi::rounding;
-use abi::table;
+use abi_client::table;
+use abi_plain::rounding;
 use client::table::Table;
 
 // A call that takes no table, or no call.

@@ -3,12 +3,12 @@
 use super::bytes;
 use super::line;
 use super::print;
-use abi::discard;
-use abi::open;
-use abi::open::Opened;
-use abi::open::Positions;
-use abi::reply;
-use abi::table;
+use abi_client::discard;
+use abi_client::open;
+use abi_client::open::Opened;
+use abi_client::open::Positions;
+use abi_client::reply;
+use abi_client::table;
 use client::table::Table;
 
 pub(crate) fn fresh(b: u32, columns: u32) -> Table {

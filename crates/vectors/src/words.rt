@@ -2,14 +2,14 @@
 use super::bytes;
 use super::line;
 use super::print;
-use abi::bytes as frames;
-use abi::codec;
-use abi::database;
-use abi::lines;
-use abi::matrix;
-use abi::packing;
-use abi::product;
-use abi::sampler;
+use abi_arith::codec;
+use abi_arith::packing;
+use abi_arith::product;
+use abi_arith::sampler;
+use abi_builder::database;
+use abi_lines::lines;
+use abi_plain::bytes as matrix_bytes;
+use abi_plain::matrix;
 
 fn packed(w: &[u32], out: &mut [u32]) -> u32 {
     let b = line::word(w, 1);
@@ -62,7 +62,7 @@ fn unread(w: &[u32], out: &mut [u32]) -> usize {
 
 fn parsed(w: &[u32], out: &mut [u32]) {
     let lent = line::narrowed(w);
-    let p = frames::ladletwig_from_bytes(line::part_bytes(w, &lent, 0), out);
+    let p = matrix_bytes::ladletwig_from_bytes(line::part_bytes(w, &lent, 0), out);
     print::word(p.number);
     print::value(p.rows);
     print::value(p.columns);

@@ -6,7 +6,7 @@ pub fn print() {
     println!("processor: {}", processor().unwrap_or_else(|| "unknown".to_string()));
     println!("compiler of the Rust: {}, {}", env!("BENCH_RUSTC"), env!("BENCH_TARGET"));
     println!("profile of the Rust: {}, opt-level {}", env!("BENCH_PROFILE"), env!("BENCH_LEVEL"));
-    println!("ours: the archive libabi.a as it was linked");
+    println!("ours: the archive libladletwig.a as it was linked");
 }
 
 fn processor() -> Option<String> {
