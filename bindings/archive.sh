@@ -7,6 +7,7 @@
 set -eu
 here=$(cd "$(dirname "$0")" && pwd)
 root=$(dirname "$here")
+rm -f "$root/target/staticlib/libladletwig.a" "$root/target/native/libladletwig.a" # none of an earlier run is linked
 machine=$(uname -m)
 if [ -z "${RATTLE_HOME:-}" ]; then guide=$(rt doc); fi # by itself, so that a failure of rt ends the run
 kit=${RATTLE_HOME:-$(dirname "$(dirname "$guide")")}
@@ -15,7 +16,7 @@ parts=$(sed -n 's/^\(abi_[a-z0-9_]*\):.*/\1/p' "$root/crates.txt")
 work=$(mktemp -d)
 trap 'rm -rf "$work"' EXIT
 
-# The archive of crate $1, and on another processor the native one beside it, of the same proof.
+# The archive of crate $1 in target/staticlib, and on another processor also the native one, of the same proof.
 make_part() {
     if [ "$machine" = x86_64 ]; then
         (cd "$root" && rt staticlib "$1")
@@ -56,7 +57,6 @@ merge() {
 }
 
 [ -n "$parts" ] || { echo "archive: crates.txt has no crate abi_*" >&2; exit 1; }
-rm -f "$root/target/staticlib/libladletwig.a" "$root/target/native/libladletwig.a" # none of an earlier run is linked
 for part in $parts; do make_part "$part"; done
 merge staticlib
 [ "$machine" = x86_64 ] || merge native

@@ -1,5 +1,6 @@
 #!/bin/sh
-# native-archive.sh ROOT NAME OUT: proves NAME in the checkout ROOT, and writes OUT/libNAME.a for this machine.
+# native-archive.sh ROOT NAME OUT: proves NAME in the checkout ROOT, and writes OUT/libNAME.a for this machine; rt's own, for
+# x86-64, is in ROOT/target/staticlib then.
 # `rt staticlib` makes x86-64 archives only. But what it hands to its clang, once all is proved, is a module of LLVM.
 # So a clang that keeps a copy of the module is put in the kit's place, and the copy is compiled again: same module,
 # this machine's back end. It isn't the one the kit vouches for: what is made here is for tests and timing.

@@ -33,7 +33,7 @@ c_with_kit() {
 c_with_cc() {
     cc -std=c99 -O2 -Wall -Wextra -Werror -pedantic -I "$root/include" \
         "$here/c/lookup.c" "$linked/libladletwig.a" -o "$work/lookup-cc"
-    "$work/lookup-cc" > "$work/printed-cc"
+    "$work/lookup-cc" > "$work/printed-cc" || { cat "$work/printed-cc"; exit 1; }
     cmp "$work/printed-cc" "$work/printed"
     echo "bindings: the machine's cc gives the same lines"
 }

@@ -10,18 +10,17 @@ use pending::table::Table;
 use plain::matrix;
 ghost use mathlib.Core.Path.{_≡_};
 ghost use mathlib.Core.Bool.{false};
-ghost use mathlib.Core.List.{[], _∷_};
+ghost use mathlib.Core.List.{[], _∷_, _++_};
 ghost use Prim.Native.Nat.{_+_, _*_, _%_, _^_, _≤_, _<_};
 ghost use lib.ListN.{length, getD, take};
-ghost use lib.Dec.{eqb};
 ghost use Rattle.laws.specs.Refusals.{_⇒_, first, after, outside};
 ghost use Rattle.laws.specs.Lists.{build, splice, laid};
 ghost use Rattle.plain.specs.Matrix.{times};
 ghost use Rattle.leaves.specs.Positions.{positionsBad};
 ghost use Rattle.leaves.specs.Words.{zeroed};
 ghost use Rattle.arith.specs.Sampler.{given, sampledNumber, sampledRead};
-ghost use Rattle.pending.specs.Table.{malformed, digestPending, full, slotOf, taken};
-ghost use Rattle.client.specs.Open.{asked, shapeBad, unread, bothRead, eitherShort, noisy, wraps, marked};
+ghost use Rattle.pending.specs.Table.{malformed, digestPending, slotOf, taken};
+ghost use Rattle.client.specs.Open.{asked, shapeBad, placeTests, unread, bothRead, eitherShort, noisy, wraps, marked};
 ghost use Rattle.client.specs.Open.{openingNumber, openingTicket, openingRead, openSaid, openOf, left, openLeft};
 
 // What an open answers.
@@ -100,7 +99,7 @@ fn place_refusal(
     positions: [u32; 4],
     digest: [u8; 32],
 ) -> Opening
-    ensures { λ a. ⌜ openingNumber a ≡ first (outside 1 1431655765 interval ⇒ 4 ∷ positionsBad r positions ⇒ 5 ∷ digestPending table digest ⇒ 7 ∷ full table ⇒ 8 ∷ eqb (table .next) 4294967295 ⇒ 9 ∷ []) ⌝ }
+    ensures { λ a. ⌜ openingNumber a ≡ first (placeTests table r interval positions digest) ⌝ }
     ensures { λ a. ⌜ openingTicket a ≡ after (openingNumber a) (table .next) 0 ⌝ }
     ensures { λ a. ⌜ openingRead a ≡ 0 ⌝ }
 {
@@ -153,7 +152,7 @@ fn plan(
     error: usize,
     query: usize,
 ) -> Opening
-    ensures { λ a. ⌜ openingNumber a ≡ first (malformed table ⇒ 18 ∷ shapeBad (table .columns) n r slab matrix hint secret error query ⇒ 2 ∷ outside 1 1431655765 interval ⇒ 4 ∷ positionsBad r positions ⇒ 5 ∷ digestPending table digest ⇒ 7 ∷ full table ⇒ 8 ∷ eqb (table .next) 4294967295 ⇒ 9 ∷ eitherShort interval n r (now (words .entry)) ⇒ 3 ∷ []) ⌝ }
+    ensures { λ a. ⌜ openingNumber a ≡ first (malformed table ⇒ 18 ∷ shapeBad (table .columns) n r slab matrix hint secret error query ⇒ 2 ∷ (placeTests table r interval positions digest ++ (eitherShort interval n r (now (words .entry)) ⇒ 3 ∷ []))) ⌝ }
     ensures { λ a. ⌜ openingTicket a ≡ after (openingNumber a) (table .next) 0 ⌝ }
     ensures { λ a. ⌜ openingRead a ≡ after (openingNumber a) (bothRead interval n r (now (words .entry))) 0 ⌝ }
 {
@@ -296,7 +295,7 @@ fn store(
     query: &mut [u32],
 ) -> Table
     requires { ⌜ (4 ≤ table .b) × (table .b ≤ 14) × (1 ≤ table .columns) × (table .columns ≤ 512) ⌝ }
-    requires { ⌜ (slotOf table 0 < 64) × (table .next < 4294967295) ⌝ }
+    requires { ⌜ (slotOf table 0 < 64) × (1 ≤ table .next) × (table .next < 4294967295) × (digestPending table digest ≡ false) ⌝ }
     requires { ⌜ (1 ≤ length (now secret)) × (length (now secret) ≤ 2048) × (length (now error) ≤ length (now query)) ⌝ }
     requires { ⌜ (length (now hint) ≡ length (now secret) * table .columns) × (length (now slab) ≡ 64 * table .columns) ⌝ }
     requires { ⌜ (positionsBad (length (now error)) positions ≡ false) × (wraps (table .b) positions (now error) ≡ false) ⌝ }

@@ -5,7 +5,7 @@ use leaves::rounding;
 use pending::table;
 use pending::table::Table;
 ghost use mathlib.Core.Path.{_≡_};
-ghost use mathlib.Core.Bool.{false, not};
+ghost use mathlib.Core.Bool.{true, false, not};
 ghost use mathlib.Core.List.{[], _∷_};
 ghost use Prim.Native.Nat.{_*_, _≤_, _<_};
 ghost use lib.ListN.{length};
@@ -13,7 +13,7 @@ ghost use lib.Dec.{eqb};
 ghost use Rattle.laws.specs.Refusals.{_⇒_, first, after};
 ghost use Rattle.laws.specs.Lists.{row, laid};
 ghost use Rattle.arith.specs.Codec.{columnsBad, valueRoom, valueLength, valueOf, decodedNumber};
-ghost use Rattle.pending.specs.Table.{malformed, pending};
+ghost use Rattle.pending.specs.Table.{used, malformed, pending};
 ghost use Rattle.client.specs.Reply.{received, lentBad, lessWord, recovered, rowNumber, replyNumber, closing, replyingNumber, replyingLength};
 ghost use Rattle.client.specs.Reply.{replyLength, replySaid, replyOf, replySlab, replyValue};
 
@@ -133,7 +133,7 @@ fn copy(from: &[u8], out: &mut [u8])
 // 17, 13, 14: else the value. It is read aside first, so that a row of another digest leaves `value` untouched.
 fn read_row(table: Table, slot: usize, row: &[u32], value: &mut [u8]) -> Reply
     requires { ⌜ (4 ≤ table .b) × (table .b ≤ 14) × (columnsBad (table .b) (table .columns) ≡ false) ⌝ }
-    requires { ⌜ (slot < 64) × (length (now row) ≡ table .columns) × (valueRoom (table .b) (table .columns) ≤ length (now value)) ⌝ }
+    requires { ⌜ (used table slot ≡ true) × (length (now row) ≡ table .columns) × (valueRoom (table .b) (table .columns) ≤ length (now value)) ⌝ }
     ensures { λ r. ⌜ replyingNumber r ≡ rowNumber table slot (now (row .entry)) ⌝ }
     ensures { λ r. ⌜ replyingLength r ≡ after (replyingNumber r) (valueLength (table .b) (table .columns) (now (row .entry))) 0 ⌝ }
     ensures { λ r. ⌜ now (value .exit) ≡ after (replyingNumber r) (laid (valueOf (table .b) (table .columns) (now (row .entry))) (now (value .entry))) (now (value .entry)) ⌝ }
@@ -161,7 +161,7 @@ fn answer_for(
     value: &mut [u8],
 ) -> Reply
     requires { ⌜ (4 ≤ table .b) × (table .b ≤ 14) × (columnsBad (table .b) (table .columns) ≡ false) ⌝ }
-    requires { ⌜ (slot < 64) × (length (now slab) ≡ 64 * table .columns) ⌝ }
+    requires { ⌜ (slot < 64) × (used table slot ≡ true) × (length (now slab) ≡ 64 * table .columns) ⌝ }
     requires { ⌜ (length (now response) ≡ table .columns) × (length (now masks) ≡ table .columns) × (valueRoom (table .b) (table .columns) ≤ length (now value)) ⌝ }
     ensures { λ r. ⌜ replyingNumber r ≡ rowNumber table slot (recovered (table .b) (row (table .columns) (now (slab .entry)) slot) (now (response .entry)) (now (masks .entry))) ⌝ }
     ensures { λ r. ⌜ replyingLength r ≡ after (replyingNumber r) (valueLength (table .b) (table .columns) (recovered (table .b) (row (table .columns) (now (slab .entry)) slot) (now (response .entry)) (now (masks .entry)))) 0 ⌝ }

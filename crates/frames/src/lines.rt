@@ -234,7 +234,7 @@ fn read_refusal(kind: u8, line: &[u8], room: usize) -> LineRead
     LineRead::Words(word_from(line, 0), columns)
 }
 
-// The words, as many as `out` has room for.
+// The line's words: `out` has exactly that many.
 fn read_words(line: &[u8], out: &mut [u32])
     requires { ⌜ (length (now out) * 8 + 26 < length (now line)) × (digitsBad (now line) ≡ false) ⌝ }
     requires { ⌜ length (now out) ≡ lineColumns (now line) ⌝ }

@@ -15,6 +15,7 @@ fn respond(ticket: u32, query: &[u32]) -> [u8; 291] {
     line
 }
 
+// What is no query line is answered with zeros, which no terminal takes for a line.
 pub(crate) fn answer(query: [u8; 83]) -> [u8; 291] {
     let mut words = [0; 7];
     let LineRead::Words(ticket, _) = lines::read_line(1, &query, &mut words) else {

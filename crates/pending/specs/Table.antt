@@ -6,7 +6,7 @@ use mathlib.Core.Bool.{Bool, not, cond, _&&_, _||_}
 use mathlib.Core.List.{List, [], _∷_}
 use lib.ListN.{length, getD, set, replicate}
 use lib.Dec.{leb, eqb}
-use Rattle.laws.specs.Refusals.{_⇒_, first, after, widthBad}
+use Rattle.laws.specs.Refusals.{_⇒_, first, after, outside, widthBad}
 use Rattle.laws.specs.Lists.{row, splice}
 use Rattle.laws.specs.Search.{some, lowest}
 use Rattle.leaves.specs.Digests.{differs}
@@ -59,9 +59,9 @@ pending t ticket = not (eqb ticket 0) && some 64 (λ s. eqb (numberAt t s) ticke
 unfoldable pub digestPending : Table → List ℕ → Bool
 digestPending t digest = some 64 (λ s. used t s && not (differs (digestAt t s) digest))
 
--- a digest differs from slot s's; from no slot's, where s is none of the 64
+-- a digest differs from slot s's; where s is free, or none of the 64, every digest does
 unfoldable pub differsAt : Table → ℕ → List ℕ → Bool
-differsAt t s digest = leb 64 s || differs digest (digestAt t s)
+differsAt t s digest = not (used t s) || differs digest (digestAt t s)
 
 -- 8: no free slot
 unfoldable pub full : Table → Bool
@@ -77,9 +77,13 @@ taken t s digest = record {
   digests = splice (s * 32) digest (t .digests);
 }
 
--- the lowest free slot taken; a table that is full, or whose numbers are used up, stays as it is
+-- a slot can be taken for a digest: it is not pending, a slot is free, and next is a number that a ticket may have
+unfoldable pub takable : Table → List ℕ → Bool
+takable t digest = not (digestPending t digest || full t || outside 1 4294967294 (t .next))
+
+-- the lowest free slot taken; else the table stays as it is
 abbrev pub takeAfter : Table → List ℕ → Table
-takeAfter t digest = cond (full t || eqb (t .next) 4294967295) t (taken t (slotOf t 0) digest)
+takeAfter t digest = cond (takable t digest) (taken t (slotOf t 0) digest) t
 
 -- slot s freed, its digest zeroed
 abbrev pub closed : Table → ℕ → Table
@@ -95,9 +99,9 @@ closed t s = record {
 abbrev pub wiped : ℕ → ℕ → List ℕ → List ℕ
 wiped columns s slab = splice (s * columns) (replicate columns 0) slab
 
--- a ticket can be closed: it is pending, and the slab has 64·C words, C at most 512 (as where the table is not malformed)
+-- a ticket can be closed: it is pending, and the slab has 64·C words
 unfoldable pub closable : Table → ℕ → ℕ → Bool
-closable t slab ticket = pending t ticket && (leb (t .columns) 512 && eqb slab (64 * t .columns))
+closable t slab ticket = pending t ticket && eqb slab (64 * t .columns)
 
 -- its slot freed and wiped; else all stays as it is
 abbrev pub closeAfter : Table → ℕ → ℕ → Table

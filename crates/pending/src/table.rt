@@ -1,5 +1,5 @@
-// Document 01, "Pending table": 64 slots by value. Their secrets lie in a lent slab, which is not part of the table. What a
-// caller hands in is tested by its own refusals; here a slot, ticket or slab that is none leaves everything as it was.
+// Document 01, "Pending table": 64 slots by value. Their secrets lie in a lent slab, which is not part of the table. To refuse
+// by a number is the caller's part: here a digest, ticket or slab for which there is nothing to do leaves all as it was.
 use arith::codec;
 use leaves::digests;
 use leaves::limits;
@@ -13,15 +13,19 @@ ghost use Rattle.laws.specs.Lists.{splice};
 ghost use Rattle.laws.specs.Search.{some};
 ghost use Rattle.leaves.specs.Digests.{differs};
 ghost use Rattle.pending.specs.Table.{numberAt, digestAt, used, alike, malformed};
-ghost use Rattle.pending.specs.Table.{slotOf, pending, digestPending, differsAt, taken, takeAfter, closed, wiped, closable, closeAfter, wipeAfter};
+ghost use Rattle.pending.specs.Table.{slotOf, pending, digestPending, differsAt, taken, takable, takeAfter, closed, wiped, closable, closeAfter, wipeAfter};
 ghost use Rattle.pending.specs.Table.{makingNumber, freshNumber, freshTable, freshAfter};
 
 #[repr(C)]
 pub struct Table {
     pub b: u32,
+    // C, the words of a row and of a slot's secret.
     pub columns: usize,
+    // The number that the next ticket has.
     pub next: u32,
+    // Slot s's ticket; 0 where it is free.
     pub numbers: [u32; 64],
+    // Slot s's 32 bytes from 32·s on; zeros where it is free.
     pub digests: [u8; 2048],
 }
 
@@ -54,7 +58,7 @@ fn empty(b: u32, columns: usize, next: u32) -> Table
     }
 }
 
-// A new table, and so a new history.
+// A new table, and so a new history: its numbers start at 1 again, and no line of an earlier table is for it.
 pub fn fresh(b: u32, columns: usize) -> Made
     ensures { λ r. ⌜ makingNumber (r .answer) ≡ freshNumber b columns ⌝ }
     ensures { λ r. ⌜ r .table ≡ freshAfter b columns ⌝ }
@@ -226,11 +230,14 @@ pub fn digest_pending(table: Table, digest: [u8; 32]) -> bool
     false
 }
 
-// 14: does this digest differ from slot s's in any byte? From none, where s is not one of the 64, every digest does.
+// 14: does this digest differ from slot s's in any byte? Where s is free, or none of the 64, every digest does.
 pub fn differs_at(table: Table, s: usize, digest: [u8; 32]) -> bool
     ensures { λ r. ⌜ r ≡ differsAt table s digest ⌝ }
 {
     if 64 <= s {
+        return true;
+    }
+    if table.numbers[s] == 0 {
         return true;
     }
     digests::digest_differs(digest, digest_of(table, s))
@@ -262,23 +269,32 @@ fn take_slot(table: Table, s: usize, digest: [u8; 32]) -> Table
     t
 }
 
-// The table with the next number and this digest in its lowest free slot. Without a slot or a number it stays as it is.
+// Is the digest not pending, a slot free, and next a number that a ticket may have?
+fn can_take(table: Table, digest: [u8; 32]) -> bool
+    ensures { λ r. ⌜ r ≡ takable table digest ⌝ }
+{
+    if digest_pending(table, digest) {
+        return false;
+    }
+    if slot_of(table, 0) == 64 {
+        return false;
+    }
+    !limits::out_of(1, 4294967294, table.next as usize)
+}
+
+// The table with the next number and this digest in its lowest free slot. Where 7, 8 or 9 holds it stays as it is.
 pub fn take(table: Table, digest: [u8; 32]) -> Table
     ensures { λ t. ⌜ t ≡ takeAfter table digest ⌝ }
 {
-    let s = slot_of(table, 0);
-    if s == 64 {
+    if !can_take(table, digest) {
         return table;
     }
-    if table.next == 4294967295 {
-        return table;
-    }
-    take_slot(table, s, digest)
+    take_slot(table, slot_of(table, 0), digest)
 }
 
 // Frees slot s, and wipes its digest and its secret words.
 fn close_slot(table: Table, slab: &mut [u32], s: usize) -> Table
-    requires { ⌜ (s < 64) × (length (now slab) ≡ 64 * table .columns) × (table .columns ≤ 512) ⌝ }
+    requires { ⌜ (s < 64) × (length (now slab) ≡ 64 * table .columns) ⌝ }
     ensures { λ t. ⌜ t ≡ closed table s ⌝ }
     ensures { λ _. ⌜ now (slab .exit) ≡ wiped (table .columns) s (now (slab .entry)) ⌝ }
 {
@@ -291,21 +307,21 @@ fn close_slot(table: Table, slab: &mut [u32], s: usize) -> Table
     t
 }
 
-// Is the ticket pending, and the slab, of this length, the table's?
+// Is the ticket pending, and the slab of this length the table's? 64·C may be more than a `usize` holds, so it is not taken.
 fn can_close(table: Table, slab: usize, ticket: u32) -> bool
     ensures { λ r. ⌜ r ≡ closable table slab ticket ⌝ }
 {
     if !is_pending(table, ticket) {
         return false;
     }
-    if 512 < table.columns {
+    if slab % 64 != 0 {
         return false;
     }
-    slab == 64 * table.columns
+    slab / 64 == table.columns
 }
 
-// Frees the slot of a pending ticket, and wipes its digest and its secret words. Without such a ticket, or a slab of 64·C
-// words, both stay as they are.
+// Frees the slot of a pending ticket (the lowest, should two have its number), and wipes its digest and its secret words.
+// Without such a ticket, or a slab of 64·C words, table and slab stay as they are.
 pub fn close(table: Table, slab: &mut [u32], ticket: u32) -> Table
     ensures { λ t. ⌜ t ≡ closeAfter table (length (now (slab .entry))) ticket ⌝ }
     ensures { λ _. ⌜ now (slab .exit) ≡ wipeAfter table (now (slab .entry)) ticket ⌝ }

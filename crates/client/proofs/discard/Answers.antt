@@ -11,7 +11,6 @@ use denote.Enum.Declared.{tagOf}
 use Rattle.laws.specs.Refusals.{_⇒_}
 use Rattle.laws.proofs.Refusals.{passed}
 use Rattle.pending.specs.Table.{malformed, pending, closable}
-use Rattle.pending.proofs.table.Formed.{few-columns}
 use Rattle.pending.proofs.table.Answers.{closes}
 use Rattle.client.specs.Discard.{discardingNumber, discardNumber}
 use Rattle.pending.specs.declared.table.Table.{Table}
@@ -46,4 +45,4 @@ accepted t slab ticket e =
 
 -- so the ticket can be closed
 pub can-close : (t : Table) (slab ticket : ℕ) → Accepted t slab ticket → closable t slab ticket ≡ true
-can-close t slab ticket p = closes t slab ticket (p .waiting) (p .whole) (few-columns t (p .well))
+can-close t slab ticket p = closes t slab ticket (record { waiting = p .waiting; whole = p .whole })

@@ -18,8 +18,8 @@ use Rattle.leaves.specs.Positions.{positionsBad}
 use Rattle.pending.specs.declared.table.Table.{Table}
 use Rattle.client.specs.declared.open.Opening.{Opening}
 use Rattle.client.specs.declared.open.Opening.the-variants as opening
-use Rattle.pending.specs.Table.{malformed, digestPending, full, slotOf, taken}
-use Rattle.client.specs.Open.{Asked, askedBad, bothRead, eitherShort, wraps, marked, noisyOf, storedSecret, openTests, early, openNumber}
+use Rattle.pending.specs.Table.{digestPending, full, slotOf, taken}
+use Rattle.client.specs.Open.{Asked, bothRead, eitherShort, wraps, marked, noisyOf, storedSecret, openTests, openNumber}
 use Rattle.client.specs.Open.{OpenSaid, openingNumber, openingTicket, openingRead, openOf, left, openLeft}
 use Rattle.pending.proofs.table.Slots.{slot-free}
 use Rattle.client.proofs.open.Opening.{the-type}
@@ -45,6 +45,10 @@ module _ (o : Opening) (t k : ℕ) (told : o ≡ opening.Ticket t k) where
 
   pub read-told : (read : ℕ) → openingRead o ≡ after (openingNumber o) read 0 → k ≡ read
   read-told read e = rw told at e
+
+-- the number of the first step
+unfoldable pub early : Asked → ℕ
+early a = first (openTests a)
 
 module _ (a : Asked) where
   -- the number of the whole

@@ -2,8 +2,9 @@
 use mathlib.Core.Path.{_≡_}
 use mathlib.Core.Bool.{false, not, _||_}
 use Prim.Native.Nat.{ℕ, _*_, _≤_}
+use native.Mathlib.Omega.{arith}
 use lib.Dec.{ltb, eqb}
-use borrow.Author.Tests.{ltb-false, eqb-true, not-false}
+use borrow.Author.Tests.{ltb-false, eqb-true, eqb-false, not-false}
 use Rattle.laws.specs.Refusals.{outside}
 use Rattle.laws.proofs.Refusals.{neither, inside}
 use Rattle.arith.specs.Codec.{columnsBad}
@@ -12,12 +13,13 @@ use Rattle.pending.specs.Table.{malformed}
 use Rattle.client.specs.Open.{shapeBad}
 use Rattle.pending.proofs.table.Formed.{formed}
 
--- a table's width and its columns are within their limits
+-- a table's width and its columns are within their limits, and its next number is one
 pub record Limited (t : Table) : Type 0 where
   pub b-least : 4 ≤ t .b
   pub b-most : t .b ≤ 14
   pub columns-least : 1 ≤ t .columns
   pub columns-most : t .columns ≤ 512
+  pub next-least : 1 ≤ t .next
 
 pub limited : (t : Table) → malformed t ≡ false → Limited t
 unfolding columnsBad
@@ -25,7 +27,9 @@ limited t h =
     let b = inside 4 14 (t .b) (formed t h .width-in) in
     let p = neither (outside 1 512 (t .columns)) (ltb (t .columns * t .b) 264) (formed t h .columns-in) in
     let c = inside 1 512 (t .columns) (p .0) in
-    record { b-least = b .0; b-most = b .1; columns-least = c .0; columns-most = c .1 }
+    let set = eqb-false (t .next) 0 (formed t h .next-set) in
+    let next : 1 ≤ t .next = omega arith in
+    record { b-least = b .0; b-most = b .1; columns-least = c .0; columns-most = c .1; next-least = next }
 
 pub record Shaped (columns n r slab matrix hint secret error query : ℕ) : Type 0 where
   pub n-least : 1 ≤ n

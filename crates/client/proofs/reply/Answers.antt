@@ -17,11 +17,11 @@ use Rattle.arith.specs.Codec.{valueRoom, valueLength, valueOf}
 use Rattle.pending.specs.declared.table.Table.{Table}
 use Rattle.client.specs.declared.reply.Reply.{Reply}
 use Rattle.client.specs.declared.reply.Reply.the-variants as reply
-use Rattle.pending.specs.Table.{malformed, pending, closed, wiped, closable}
+use Rattle.pending.specs.Table.{used, malformed, pending, closed, wiped, closable}
 use Rattle.client.specs.Reply.{Received, lentBad, recovered, slotFor, rowFor, rowTests, rowNumber, replyNumber, closing}
 use Rattle.client.specs.Reply.{replyingNumber, replyingLength, replyLength, replySaid, replyOf, replySlab, replyValue}
-use Rattle.pending.proofs.table.Slots.{slot-pending}
-use Rattle.pending.proofs.table.Formed.{Formed, formed, few-columns}
+use Rattle.pending.proofs.table.Slots.{slot-pending, slot-used}
+use Rattle.pending.proofs.table.Formed.{Formed, formed}
 use Rattle.pending.proofs.table.Answers.{closes}
 use Rattle.client.proofs.reply.Reply.{the-type}
 
@@ -125,10 +125,13 @@ module _ (a : Received) where
     waiting = not-false _ (clear .1 .1 .0)
 
     pub can-close : closable (a .table) (length (a .slab)) (a .ticket) ≡ true
-    can-close = closes (a .table) (length (a .slab)) (a .ticket) waiting (lent .0) (few-columns (a .table) (clear .0))
+    can-close = closes (a .table) (length (a .slab)) (a .ticket) (record { waiting = waiting; whole = lent .0 })
 
     pub slot-lt : slotFor a < 64
     slot-lt = slot-pending (a .table) (a .ticket) waiting .0
+
+    pub slot-taken : used (a .table) (slotFor a) ≡ true
+    slot-taken = slot-used (a .table) (a .ticket) waiting
 
     pub response-long : length (a .response) ≡ a .table .columns
     response-long = eqb-true _ _ (not-false _ (clear .1 .1 .1 .0))

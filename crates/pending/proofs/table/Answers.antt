@@ -1,36 +1,67 @@
--- A slot that is one of the 64 is compared; a table with a slot and a number is taken from; a pending ticket of a slab that is the
--- table's is closed.
-use mathlib.Core.Path.{_≡_}
-use mathlib.Core.Bool.{true, false, _&&_, and-eq-true-iff}
+-- A used slot is compared; a table that can be taken from is taken from; a ticket that can be closed is closed. No table that was
+-- well formed becomes malformed by it.
+use mathlib.Core.Path.{_≡_, refl}
+use mathlib.Core.Bool.{Bool, true, false, not, cond, _||_, and-eq-true-iff}
 use mathlib.Core.List.{List}
 use Prim.Native.Nat.{ℕ, _*_, _<_, _≤_}
 use native.Mathlib.Omega.{arith}
-use lib.Dec.{leb, eqb}
-use borrow.Author.Tests.{lt-leb, le-leb, leb-true, eq-eqb, ne-eqb, eqb-true}
+use lib.Dec.{eqb}
+use lib.ListN.{length}
+use borrow.Author.Tests.{eq-eqb, eqb-true, not-true}
+use Rattle.laws.specs.Refusals.{outside}
+use Rattle.laws.proofs.Refusals.{neither, inside, within}
 use Rattle.leaves.specs.Digests.{differs}
-use Rattle.pending.specs.Table.{digestAt, slotOf, pending, full, differsAt, taken, takeAfter, closable}
+use Rattle.pending.specs.Table.{Sized, digestAt, used, malformed, slotOf, pending, digestPending, full, differsAt, taken, takable, takeAfter, closed, closable, closeAfter}
 use Rattle.pending.specs.declared.table.Table.{Table}
+use Rattle.pending.proofs.table.Slots.{slot-pending}
+use Rattle.pending.proofs.table.Formed.{taken-formed, closed-formed}
 
-pub compared : (t : Table) (s : ℕ) (digest : List ℕ) → s < 64 → differsAt t s digest ≡ differs digest (digestAt t s)
+pub compared : (t : Table) (s : ℕ) (digest : List ℕ) → used t s ≡ true → differsAt t s digest ≡ differs digest (digestAt t s)
 unfolding differsAt
-compared t s digest l = simp (lt-leb 64 s l)
+compared t s digest e = simp e
 
-pub takes : (t : Table) (digest : List ℕ) → full t ≡ false → t .next < 4294967295 → takeAfter t digest ≡ taken t (slotOf t 0) digest
-takes t digest e l = simp (e, ne-eqb (t .next) 4294967295 (λ h. omega arith))
+pub record Takable (t : Table) (digest : List ℕ) : Type 0 where
+  pub unheld : digestPending t digest ≡ false
+  pub unfilled : full t ≡ false
+  pub least : 1 ≤ t .next
+  pub most : t .next < 4294967295
 
-pub closes : (t : Table) (slab ticket : ℕ) → pending t ticket ≡ true → slab ≡ 64 * t .columns → t .columns ≤ 512
-    → closable t slab ticket ≡ true
-unfolding closable
-closes t slab ticket e h l = simp (e, le-leb (t .columns) 512 l, eq-eqb slab (64 * t .columns) h)
+pub takes : (t : Table) (digest : List ℕ) → Takable t digest → takable t digest ≡ true
+unfolding takable
+takes t digest p = simp (p .unheld, p .unfilled, within 1 4294967294 (t .next) (p .least) (omega (arith, p .most)))
+
+pub takable-told : (t : Table) (digest : List ℕ) → takable t digest ≡ true → Takable t digest
+unfolding takable
+takable-told t digest e =
+    let p = neither (digestPending t digest || full t) (outside 1 4294967294 (t .next)) (not-true _ e) in
+    let q = neither (digestPending t digest) (full t) (p .0) in
+    let n = inside 1 4294967294 (t .next) (p .1) in
+    record { unheld = q .0; unfilled = q .1; least = n .0; most = omega (arith, n .1) }
+
+pub take-formed : (t : Table) (digest : List ℕ) → Sized t → length digest ≡ 32 → malformed t ≡ false → malformed (takeAfter t digest) ≡ false
+take-formed t digest z d e = by (takable t digest) refl
+  where
+    by : (b : Bool) → takable t digest ≡ b → malformed (cond b (taken t (slotOf t 0) digest) t) ≡ false
+    by true h = let p = takable-told t digest h in taken-formed t digest z d e (p .unheld) (p .unfilled)
+    by false h = e
 
 pub record Closable (t : Table) (slab ticket : ℕ) : Type 0 where
   pub waiting : pending t ticket ≡ true
-  pub few : t .columns ≤ 512
   pub whole : slab ≡ 64 * t .columns
+
+pub closes : (t : Table) (slab ticket : ℕ) → Closable t slab ticket → closable t slab ticket ≡ true
+unfolding closable
+closes t slab ticket p = simp (p .waiting, eq-eqb slab (64 * t .columns) (p .whole))
 
 pub closable-told : (t : Table) (slab ticket : ℕ) → closable t slab ticket ≡ true → Closable t slab ticket
 unfolding closable
 closable-told t slab ticket e =
-    let p = and-eq-true-iff (pending t ticket) (leb (t .columns) 512 && eqb slab (64 * t .columns)) .0 e in
-    let q = and-eq-true-iff (leb (t .columns) 512) (eqb slab (64 * t .columns)) .0 (p .1) in
-    record { waiting = p .0; few = leb-true _ _ (q .0); whole = eqb-true _ _ (q .1) }
+    let p = and-eq-true-iff (pending t ticket) (eqb slab (64 * t .columns)) .0 e in
+    record { waiting = p .0; whole = eqb-true _ _ (p .1) }
+
+pub close-formed : (t : Table) (slab ticket : ℕ) → Sized t → malformed t ≡ false → malformed (closeAfter t slab ticket) ≡ false
+close-formed t slab ticket z e = by (closable t slab ticket) refl
+  where
+    by : (b : Bool) → closable t slab ticket ≡ b → malformed (cond b (closed t (slotOf t ticket)) t) ≡ false
+    by true h = closed-formed t (slotOf t ticket) (slot-pending t ticket (closable-told t slab ticket h .waiting) .0) z e
+    by false h = e

@@ -11,7 +11,7 @@ use borrow.Author.Tests.{ltb-true, lt-ltb, le-ltb, eqb-true, not-false}
 use Rattle.laws.specs.Search.{some}
 use Rattle.laws.proofs.Search.{lowest-holds, lowest-le, some-lowest}
 use Rattle.laws.proofs.Splice.{row-replaced, row-kept}
-use Rattle.pending.specs.Table.{Sized, numberAt, digestAt, slotOf, pending, full, taken, closed}
+use Rattle.pending.specs.Table.{Sized, numberAt, digestAt, used, slotOf, pending, full, taken, closed}
 use Rattle.pending.specs.declared.table.Table.{Table}
 use Rattle.pending.proofs.table.Tests.{numbered, put}
 
@@ -27,6 +27,11 @@ pub slot-pending : (t : Table) (ticket : ℕ) → pending t ticket ≡ true
 unfolding pending
 slot-pending t ticket e =
     found t ticket (and-eq-true-iff (not (eqb ticket 0)) (some 64 (numbered t ticket)) .0 e .1)
+
+pub slot-used : (t : Table) (ticket : ℕ) → pending t ticket ≡ true → used t (slotOf t ticket) ≡ true
+unfolding pending
+slot-used t ticket e =
+    rw (slot-pending t ticket e .1) (and-eq-true-iff (not (eqb ticket 0)) (some 64 (numbered t ticket)) .0 e .0)
 
 pub slot-free : (t : Table) → full t ≡ false → (slotOf t 0 < 64) × (numberAt t (slotOf t 0) ≡ 0)
 unfolding full

@@ -4,33 +4,24 @@ use mathlib.Core.Bool.{Bool, false}
 use mathlib.Core.List.{List, [], _∷_, _++_}
 use Prim.Native.Nat.{ℕ, _<_, _≤_}
 use native.Mathlib.Omega.{arith}
-use lib.Dec.{eqb}
 use borrow.Author.Needs.{needs}
-use Rattle.laws.specs.Refusals.{Test, _⇒_, first, outside}
+use Rattle.laws.specs.Refusals.{Test, _⇒_, first}
 use Rattle.laws.proofs.Refusals.{kept, refused-before, all-clear, clear-before}
 use Rattle.arith.specs.Sampler.{sampledNumber}
 use Rattle.arith.proofs.sampler.Answers as samples
-use Rattle.leaves.specs.Positions.{positionsBad}
-use Rattle.pending.specs.Table.{malformed, digestPending, full}
+use Rattle.pending.specs.Table.{malformed}
 use Rattle.pending.proofs.table.Formed.{few-columns}
-use Rattle.client.specs.Open.{shapeBad, eitherShort, openingNumber}
+use Rattle.client.specs.Open.{shapeBad, placeTests, eitherShort, openingNumber}
 use Rattle.client.proofs.open.Samples.{refuses}
 use Rattle.client.proofs.open.Sizes.{Shaped, shaped}
 use Rattle.client.proofs.open.Answers.{refusing, ticket-told}
 use Rattle.client.proofs.open.plan.Statement.{statement}
 use Rattle.client.proofs.open.plan.Tie as tie
 
--- the tests, past the first two: 4, 5, 7, 8, 9; and then 3
+-- the tests, past the first two: those of the place, and then 3
 module _ (st : tie.Start) where
-  abbrev placeTests : List Test
-  placeTests =
-      let a = st .args in
-      outside 1 1431655765 (a .interval) ⇒ 4
-      ∷ positionsBad (a .r) (a .positions) ⇒ 5
-      ∷ digestPending (a .table) (a .digest) ⇒ 7
-      ∷ full (a .table) ⇒ 8
-      ∷ eqb (a .table .next) 4294967295 ⇒ 9
-      ∷ []
+  abbrev place : List Test
+  place = let a = st .args in placeTests (a .table) (a .r) (a .interval) (a .positions) (a .digest)
 
   abbrev short : Bool
   short = let a = st .args in eitherShort (a .interval) (a .n) (a .r) (a .words .now)
@@ -40,7 +31,7 @@ module _ (st : tie.Start) where
 
   -- the number of the whole
   abbrev number : ℕ
-  number = first (malformed (st .args .table) ⇒ 18 ∷ shape-test ⇒ 2 ∷ (placeTests ++ (short ⇒ 3 ∷ [])))
+  number = first (malformed (st .args .table) ⇒ 18 ∷ shape-test ⇒ 2 ∷ (place ++ (short ⇒ 3 ∷ [])))
 
 -- what each test that was passed says
 well : (c : tie.Else1) → malformed (c .before .before .before .args .table) ≡ false
@@ -57,18 +48,18 @@ module _ (c : tie.Else2) where
   sizes = shaped _ _ _ _ _ _ _ _ _ shape
 
   -- a place that is refused, and one that is not
-  place-refused : 0 < first (placeTests st) → first (placeTests st) ≡ number st
-  place-refused h = simp (well (c .before .before), shape) (sym (refused-before (placeTests st) (short st ⇒ 3 ∷ []) h))
+  place-refused : 0 < first (place st) → first (place st) ≡ number st
+  place-refused h = simp (well (c .before .before), shape) (sym (refused-before (place st) (short st ⇒ 3 ∷ []) h))
 
-  place-passed : first (placeTests st) ≡ 0 → number st ≡ first (short st ⇒ 3 ∷ [])
+  place-passed : first (place st) ≡ 0 → number st ≡ first (short st ⇒ 3 ∷ [])
   place-passed e =
-      simp (well (c .before .before), shape) (clear-before (placeTests st) (short st ⇒ 3 ∷ []) (all-clear (placeTests st) tt e))
+      simp (well (c .before .before), shape) (clear-before (place st) (short st ⇒ 3 ∷ []) (all-clear (place st) tt e))
 
 module _ (c : tie.After-known-told) where
   abbrev two : tie.Else2
   two = c .before .before .before .before
 
-  placed : first (placeTests (st two)) ≡ 0
+  placed : first (place (st two)) ≡ 0
   placed = sym (c .before .before .before .place-refusal .ensures .0) ∙ ap openingNumber (c .before .place .given .1)
 
 is-malformed-requires : tie.Need-is-malformed-requires
@@ -102,7 +93,7 @@ words-for-both-requires : tie.Need-words-for-both-requires
 words-for-both-requires c κs =
     let s = sizes (two c) in
     let n-most : st (two c) .args .n ≤ 4096 = omega (arith, s .n-most) in
-    (n-most, s .r-most, all-clear (placeTests (st (two c))) tt (placed c) .0)
+    (n-most, s .r-most, all-clear (place (st (two c))) tt (placed c) .0)
 
 enum-known-read : tie.Need-enum-known-read
 enum-known-read c = search needs

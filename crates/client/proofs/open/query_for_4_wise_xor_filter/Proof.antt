@@ -13,9 +13,9 @@ use Rattle.plain.specs.Matrix.{times}
 use Rattle.leaves.specs.Positions.{positionsBad}
 use Rattle.arith.specs.Sampler.{given}
 use Rattle.pending.specs.Table.{slotOf}
-use Rattle.client.specs.Open.{Asked, asked, unread, bothRead, secretOf, errorOf, noisy, noisyOf, wraps, marked, early, openingNumber}
+use Rattle.client.specs.Open.{Asked, asked, unread, bothRead, secretOf, errorOf, noisy, noisyOf, wraps, marked, openingNumber}
 use Rattle.pending.proofs.table.Lengths.{next-fits}
-use Rattle.client.proofs.open.Answers.{refusing, ticket-told, read-told, Ready, ready, refused, wrapped, opened, said-same, left-same}
+use Rattle.client.proofs.open.Answers.{early, refusing, ticket-told, read-told, Ready, ready, refused, wrapped, opened, said-same, left-same}
 use Rattle.client.proofs.open.query_for_4_wise_xor_filter.Statement.{statement}
 use Rattle.client.proofs.open.query_for_4_wise_xor_filter.Tie as tie
 
@@ -189,7 +189,7 @@ store-requires c κs =
     let next : asks p .table .next < 4294967295 = omega (arith, facts p .next, next-fits (asks p .table) _ (start (passed (drawn p)) .good .0)) in (
       (t .b-least, t .b-most, t .columns-least, t .columns-most),
       (
-        (facts p .free, next),
+        (facts p .free, t .next-least, next, facts p .unheld),
         (
           (omega (arith, secret-long p, s .n-least), omega (arith, secret-long p, s .n-most), omega (arith, noise-long p, s .query-roomy)),
           (

@@ -10,7 +10,7 @@ use Rattle.laws.specs.Lists.{splice, laid}
 use Rattle.laws.proofs.Lists.{length-build}
 use Rattle.plain.specs.Matrix.{times}
 use Rattle.pending.proofs.table.Slots.{some-free}
-use Rattle.pending.proofs.table.Answers.{takes}
+use Rattle.pending.proofs.table.Answers.{Takable, takes}
 use Rattle.client.specs.Open.{marked}
 use Rattle.client.proofs.open.store.Statement.{statement}
 use Rattle.client.proofs.open.store.Tie as tie
@@ -61,8 +61,11 @@ returns c =
     let a = st .args in
     let key = times 1 (length (a .secret .now)) (a .table .columns) (a .secret .now) (a .hint .now) in
     let slot = found .slot-of .ensures in
+    let p = st .pre .1 .0 in
+    let can : Takable (a .table) (a .digest) =
+    record { unheld = p .3; unfilled = some-free (a .table) (λ e. omega (arith, p .0)); least = p .1; most = p .2 } in
     let long = ap length (made .mark .ensures) ∙ length-build (length (a .error .now)) _ in (
-      c .take .ensures ∙ takes (a .table) (a .digest) (some-free (a .table) (λ e. omega arith)) (st .pre .1 .0 .1),
+      rw (takes (a .table) (a .digest) can) at (c .take .ensures),
       (
         put .put-secret .ensures ∙ ap (λ (s : ℕ). splice (s * a .table .columns) key (a .slab .now)) slot,
         (

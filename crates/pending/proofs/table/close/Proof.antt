@@ -7,7 +7,7 @@ use borrow.Author.Needs.{needs}
 use borrow.Author.Tests.{not-true, not-false}
 use Rattle.pending.specs.Table.{closable, closed, wiped}
 use Rattle.pending.proofs.table.Slots.{slot-pending}
-use Rattle.pending.proofs.table.Answers.{Closable, closable-told}
+use Rattle.pending.proofs.table.Answers.{closable-told}
 use Rattle.pending.proofs.table.close.Statement.{statement}
 use Rattle.pending.proofs.table.close.Tie as tie
 
@@ -30,7 +30,7 @@ close-slot-requires : tie.Need-close-slot-requires
 close-slot-requires c κs =
     let one = c .before .before in
     let p = closable-told _ _ _ (can one) in
-    (rw (c .slot-of .ensures) (slot-pending _ _ (p .waiting) .0), p .whole, p .few)
+    (rw (c .slot-of .ensures) (slot-pending _ _ (p .waiting) .0), p .whole)
 
 same-length : tie.Need-same-length
 same-length c = search needs
