@@ -16,6 +16,7 @@ shift
 checkout=$(cd "$(dirname "$0")/.." && pwd)
 guide=$(rt doc)
 kit=$(dirname "$(dirname "$guide")")
+[ -d "$kit/on/aarch64" ] || say "the kit at $kit has nothing for aarch64"
 rust=${LADLETWIG_RUST_SOURCE:-$(dirname "$checkout")/shared/docs/src}
 suite=trixie # the first Debian with a Rust of 1.82 or later
 formats=/proc/sys/fs/binfmt_misc

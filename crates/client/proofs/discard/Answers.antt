@@ -10,8 +10,8 @@ use types.Run.{OneOf, miss}
 use denote.Enum.Declared.{tagOf}
 use Rattle.laws.specs.Refusals.{_⇒_}
 use Rattle.laws.proofs.Refusals.{passed}
-use Rattle.pending.specs.Table.{malformed, pending, closable}
-use Rattle.pending.proofs.table.Answers.{closes}
+use Rattle.pending.specs.Table.{malformed, pending}
+use Rattle.pending.proofs.table.Answers.{Closable}
 use Rattle.client.specs.Discard.{discardingNumber, discardNumber}
 use Rattle.pending.specs.declared.table.Table.{Table}
 use Rattle.client.specs.declared.discard.Discarding.{Discarding}
@@ -44,5 +44,5 @@ accepted t slab ticket e =
     }
 
 -- so the ticket can be closed
-pub can-close : (t : Table) (slab ticket : ℕ) → Accepted t slab ticket → closable t slab ticket ≡ true
-can-close t slab ticket p = closes t slab ticket (record { waiting = p .waiting; whole = p .whole })
+pub can-close : (t : Table) (slab ticket : ℕ) → Accepted t slab ticket → Closable t slab ticket
+can-close t slab ticket p = record { waiting = p .waiting; whole = p .whole }

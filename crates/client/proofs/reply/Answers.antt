@@ -17,12 +17,12 @@ use Rattle.arith.specs.Codec.{valueRoom, valueLength, valueOf}
 use Rattle.pending.specs.declared.table.Table.{Table}
 use Rattle.client.specs.declared.reply.Reply.{Reply}
 use Rattle.client.specs.declared.reply.Reply.the-variants as reply
-use Rattle.pending.specs.Table.{used, malformed, pending, closed, wiped, closable}
+use Rattle.pending.specs.Table.{used, malformed, pending, closed, wiped}
 use Rattle.client.specs.Reply.{Received, lentBad, recovered, slotFor, rowFor, rowTests, rowNumber, replyNumber, closing}
 use Rattle.client.specs.Reply.{replyingNumber, replyingLength, replyLength, replySaid, replyOf, replySlab, replyValue}
 use Rattle.pending.proofs.table.Slots.{slot-pending, slot-used}
 use Rattle.pending.proofs.table.Formed.{Formed, formed}
-use Rattle.pending.proofs.table.Answers.{closes}
+use Rattle.pending.proofs.table.Answers.{Closable}
 use Rattle.client.proofs.reply.Reply.{the-type}
 
 -- an answer other than a value, as a `let .. else` tells it
@@ -124,8 +124,8 @@ module _ (a : Received) where
     pub waiting : pending (a .table) (a .ticket) ≡ true
     waiting = not-false _ (clear .1 .1 .0)
 
-    pub can-close : closable (a .table) (length (a .slab)) (a .ticket) ≡ true
-    can-close = closes (a .table) (length (a .slab)) (a .ticket) (record { waiting = waiting; whole = lent .0 })
+    pub can-close : Closable (a .table) (length (a .slab)) (a .ticket)
+    can-close = record { waiting = waiting; whole = lent .0 }
 
     pub slot-lt : slotFor a < 64
     slot-lt = slot-pending (a .table) (a .ticket) waiting .0

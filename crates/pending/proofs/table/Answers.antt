@@ -11,7 +11,7 @@ use borrow.Author.Tests.{eq-eqb, eqb-true, not-true}
 use Rattle.laws.specs.Refusals.{outside}
 use Rattle.laws.proofs.Refusals.{neither, inside, within}
 use Rattle.leaves.specs.Digests.{differs}
-use Rattle.pending.specs.Table.{Sized, digestAt, used, malformed, slotOf, pending, digestPending, full, differsAt, taken, takable, takeAfter, closed, closable, closeAfter}
+use Rattle.pending.specs.Table.{Sized, digestAt, used, malformed, slotOf, pending, digestPending, full, differsAt, taken, takable, takeAfter, closed, wiped, closable, closeAfter, wipeAfter}
 use Rattle.pending.specs.declared.table.Table.{Table}
 use Rattle.pending.proofs.table.Slots.{slot-pending}
 use Rattle.pending.proofs.table.Formed.{taken-formed, closed-formed}
@@ -26,9 +26,9 @@ pub record Takable (t : Table) (digest : List ℕ) : Type 0 where
   pub least : 1 ≤ t .next
   pub most : t .next < 4294967295
 
-pub takes : (t : Table) (digest : List ℕ) → Takable t digest → takable t digest ≡ true
+pub taken-is : (t : Table) (digest : List ℕ) → Takable t digest → takeAfter t digest ≡ taken t (slotOf t 0) digest
 unfolding takable
-takes t digest p = simp (p .unheld, p .unfilled, within 1 4294967294 (t .next) (p .least) (omega (arith, p .most)))
+taken-is t digest p = simp (p .unheld, p .unfilled, within 1 4294967294 (t .next) (p .least) (omega (arith, p .most)))
 
 pub takable-told : (t : Table) (digest : List ℕ) → takable t digest ≡ true → Takable t digest
 unfolding takable
@@ -49,9 +49,16 @@ pub record Closable (t : Table) (slab ticket : ℕ) : Type 0 where
   pub waiting : pending t ticket ≡ true
   pub whole : slab ≡ 64 * t .columns
 
-pub closes : (t : Table) (slab ticket : ℕ) → Closable t slab ticket → closable t slab ticket ≡ true
+closes : (t : Table) (slab ticket : ℕ) → Closable t slab ticket → closable t slab ticket ≡ true
 unfolding closable
 closes t slab ticket p = simp (p .waiting, eq-eqb slab (64 * t .columns) (p .whole))
+
+pub closed-is : (t : Table) (slab ticket : ℕ) → Closable t slab ticket → closeAfter t slab ticket ≡ closed t (slotOf t ticket)
+closed-is t slab ticket p = rw (closes t slab ticket p)
+
+pub wiped-is : (t : Table) (slab : List ℕ) (ticket : ℕ) → Closable t (length slab) ticket
+    → wipeAfter t slab ticket ≡ wiped (t .columns) (slotOf t ticket) slab
+wiped-is t slab ticket p = rw (closes t (length slab) ticket p)
 
 pub closable-told : (t : Table) (slab ticket : ℕ) → closable t slab ticket ≡ true → Closable t slab ticket
 unfolding closable

@@ -4,6 +4,7 @@ use Prim.Native.Nat.{ℕ}
 use lib.ListN.{length}
 use borrow.Author.Needs.{needs}
 use Rattle.laws.proofs.Refusals.{kept, written}
+use Rattle.pending.proofs.table.Answers.{closed-is, wiped-is}
 use Rattle.client.specs.Discard.{discardingNumber, discardNumber}
 use Rattle.client.proofs.discard.Answers.{refusing, accepted, can-close}
 use Rattle.client.proofs.discard.discard_query.Statement.{statement}
@@ -45,7 +46,7 @@ returns-2 c =
     let told = cl .before .before in
     let z = none told in
     let p = can-close _ _ _ (accepted _ _ _ z) in
-    (sym z, (rw p at (cl .close .ensures .0) ∙ written _ _ _ z, rw p at (cl .close .ensures .1) ∙ written _ _ _ z))
+    (sym z, (cl .close .ensures .0 ∙ closed-is _ _ _ p ∙ written _ _ _ z, cl .close .ensures .1 ∙ wiped-is _ _ _ p ∙ written _ _ _ z))
 
 pub discard-query-spec : {M : Type 1} → statement M
 discard-query-spec =

@@ -10,7 +10,7 @@ use Rattle.laws.specs.Lists.{splice, laid}
 use Rattle.laws.proofs.Lists.{length-build}
 use Rattle.plain.specs.Matrix.{times}
 use Rattle.pending.proofs.table.Slots.{some-free}
-use Rattle.pending.proofs.table.Answers.{Takable, takes}
+use Rattle.pending.proofs.table.Answers.{Takable, taken-is}
 use Rattle.client.specs.Open.{marked}
 use Rattle.client.proofs.open.store.Statement.{statement}
 use Rattle.client.proofs.open.store.Tie as tie
@@ -65,7 +65,7 @@ returns c =
     let can : Takable (a .table) (a .digest) =
     record { unheld = p .3; unfilled = some-free (a .table) (λ e. omega (arith, p .0)); least = p .1; most = p .2 } in
     let long = ap length (made .mark .ensures) ∙ length-build (length (a .error .now)) _ in (
-      rw (takes (a .table) (a .digest) can) at (c .take .ensures),
+      c .take .ensures ∙ taken-is (a .table) (a .digest) can,
       (
         put .put-secret .ensures ∙ ap (λ (s : ℕ). splice (s * a .table .columns) key (a .slab .now)) slot,
         (

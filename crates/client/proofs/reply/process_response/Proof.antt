@@ -6,6 +6,7 @@ use Prim.Native.Nat.{ℕ}
 use borrow.Author.Needs.{needs}
 use borrow.Author.Tests.{not-false, not-true}
 use Rattle.laws.specs.Refusals.{first}
+use Rattle.pending.proofs.table.Answers.{closed-is, wiped-is}
 use Rattle.client.specs.Reply.{Received, received, replyNumber, closing}
 use Rattle.client.proofs.reply.Answers.{early, none-early, Told, left-open, shut, can-close}
 use Rattle.client.proofs.reply.process_response.Statement.{statement}
@@ -75,7 +76,7 @@ returns-2 c =
     let k = read (s .before) in
     let can = can-close (a k) (none s) in
     shut (a k) (k .read-response .result) (value k) (told k) (shuts s) (done .close .result) _
-    (rw can at (done .close .ensures .0)) (rw can at (done .close .ensures .1))
+    (done .close .ensures .0 ∙ closed-is _ _ _ can) (done .close .ensures .1 ∙ wiped-is _ _ _ can)
 
 pub process-response-spec : {M : Type 1} → statement M
 process-response-spec =
