@@ -15,21 +15,27 @@
  *   - Random words that an open read, after success or after a refusal 6, are never used for another open.
  *   - One table (with its slab) is used by one thread at a time. There is no state elsewhere: calls on different
  *     tables may run at the same time.
- * Wrong values are no danger: every length, dimension, number and table is tested and refused by its number.
+ * Other wrong arguments are no danger: every length, dimension, number and table is tested and refused by its number.
  *
  * What the library keeps to
  *   - It allocates nothing, keeps no pointer and calls nothing but memcpy and memset.
  *   - The table is the caller's memory. It crosses by value: hand it in, and store the one that comes back.
  *   - A refusal changes no buffer and no table and leaves every other value of the answer 0, except where it says
  *     so (6, 13 and 14). When several hold at once, the first in the function's own list is answered.
- *     After a 2 the list says what must hold for the call not to be refused by it; after another number, where the
- *     enum below doesn't say it, when that is given.
+ *     How to read a list: behind a 2 stands what the call asks for, and it is refused with 2 where any of that fails.
+ *     Behind another number stands when that number is given; a number alone is given as the enum below says.
  *   - An output may be longer than needed; what lies behind the result keeps what it held.
  *
  * Letters: b is the width of an element in bits, 4 to 14. R is the database's rows, 1 to 4096. C is its columns, 1
  * to 512. n is the length of a secret, 1 to 2048. Delta is 2^(32-b). Matrices are words, row after row. A packed
  * word holds f elements: 4 for b up to 8, 3 for b 9 and 10, 2 for b 11 to 14; a packed row of k elements has
  * ceil(k/f) words. A value has room for floor(C*b/8)-33 bytes.
+ *
+ * Choosing b and R: these limits allow more than the noise does, and no call tests it. An honest host's response is
+ * always read rightly while R*(2^b-1) < 2^(31-b), that is
+ *     for b       4 to 9     10     11     12     13     14
+ *     R at most     4096   2050    512    128     32      8
+ * Beyond that it hangs on the errors drawn, and a wrong value can come back with number 0.
  */
 #ifndef LADLETWIG_H
 #define LADLETWIG_H
@@ -79,7 +85,7 @@ typedef struct ladletwig_table {
     uint8_t digests[2048]; /* 32 bytes for each slot: the digest asked for, zeros where it is free */
 } ladletwig_table;
 
-/* The four rows of a key, by value. */
+/* The four positions of a key, each a row of the database, by value. */
 typedef struct ladletwig_positions {
     uint32_t at[4];
 } ladletwig_positions;
@@ -253,7 +259,7 @@ ladletwig_decoded ladletwig_decode_kv_from_row(uint32_t b, size_t columns,
  * Builds a database of r rows in which each key's four rows and its masks sum up to its own row, modulo 2^b. The
  * keys stand in the order of writing, one after the other: `columns` words of `rows` and of `masks` a key, four of
  * `positions`, one of `targets` (which of the four positions is written, 0 to 3). A mask may be any word. What
- * `database` held doesn't count.
+ * `database` held doesn't count. For b and r see "Choosing b and R" at the top.
  * Refuses 1; 2: r 1..4096, columns 1..512 (columns*b has no bound here), count at most r, rows_len = masks_len =
  * count*columns, positions_len = 4*count, targets_len = count, database_len >= r*columns; 17: an element of any
  * row; 15: a position that is no row, two equal ones, a target above 3, or a target row among the positions of a
@@ -286,7 +292,7 @@ uint32_t ladletwig_rounded(uint32_t b, uint32_t u);
  */
 ladletwig_made ladletwig_fresh(uint32_t b, size_t columns);
 
-/* Whether an open, a reply and a discard would refuse this table with 18. */
+/* Whether the next three calls would refuse this table with 18. */
 bool ladletwig_is_malformed(ladletwig_table table);
 
 /*
@@ -317,7 +323,7 @@ ladletwig_opened ladletwig_query_for_4_wise_xor_filter(ladletwig_table table,
  * Refuses 18; 2: slab_len = 64*C, masks_len = C, value_len >= floor(C*b/8)-33; 10; 12; 17; 13; 14.
  * Success: the value at the start of `value`; answers its length.
  * Success, 13 and 14 close the ticket: slot free, its digest and its words of the slab zero. On 13 and 14 `value`
- * keeps what it held. 12 and the others change nothing, so the good reply may still come.
+ * keeps what it held. 12 and the others change nothing, so the good response may still come.
  */
 ladletwig_replied ladletwig_process_response(ladletwig_table table,
                                              uint32_t *slab, size_t slab_len,

@@ -7,12 +7,13 @@ use crate::refusal::{answer, Refusal};
 /// own row, modulo 2^b.
 ///
 /// There are `count` keys in the order in which they are to be written, one after the other in each slice: `rows`
-/// and `masks` have `columns` words a key, `positions` four, `targets` one (the index, 0 to 3, of the position that
-/// is written). A mask may be any word; a row's elements lie below 2^b. What `database` held before doesn't count.
+/// and `masks` have `columns` words a key, `positions` four, `targets` one (which of the four positions is written, 0
+/// to 3). A mask may be any word; a row's elements lie below 2^b. What `database` held before doesn't count.
+/// For b and `r` see "Choosing b and R" on the crate's [first page](crate).
 ///
 /// Refusals in order: 1; 2 (`r` 1 to 4,096, `columns` 1 to 512, `count` at most `r`, the four slices exactly as
 /// long as said, `database` at least `r`·`columns`); 17 (an element of any row); 15 (a position that is no row, two
-/// equal positions, an index above 3, or a target among the positions of a key written before).
+/// equal positions, a target above 3, or a target row among the positions of a key written before).
 ///
 /// After: `database` starts with the `r`·`columns` words and keeps the rest of what it held; on a refusal it keeps
 /// all.

@@ -12,6 +12,19 @@
 //! rows (1 to 4,096), n the length of a secret (1 to 2,048), Δ stands for 2^(32-b). Matrices are words, row after
 //! row.
 //!
+//! # Choosing b and R
+//!
+//! These limits allow more than the noise does, and no call tests it. An honest host's response is always read rightly
+//! while R·(2^b - 1) < 2^(31-b):
+//!
+//! | b | 4 to 9 | 10 | 11 | 12 | 13 | 14 |
+//! |---|---|---|---|---|---|---|
+//! | R at most | 4,096 | 2,050 | 512 | 128 | 32 | 8 |
+//!
+//! Beyond that it hangs on the errors drawn, and a wrong value can come back as `Ok`.
+//!
+//! # A first call
+//!
 //! ```
 //! use ladletwig::{Refusal, Table};
 //!
@@ -27,7 +40,10 @@ mod arith;
 mod builder;
 mod lines;
 mod plain;
+#[cfg(not(feature = "raw"))]
 mod raw;
+#[cfg(feature = "raw")]
+pub mod raw;
 mod refusal;
 mod rounding;
 mod table;

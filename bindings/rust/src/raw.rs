@@ -1,5 +1,5 @@
-//! The archive's functions as C has them, and the structs that they answer with. Nothing outside this crate sees
-//! them.
+//! The archive's functions as C has them, and the structs that they answer with. Nothing outside this crate sees them,
+//! unless it asks for the feature `raw`.
 //!
 //! What every call below leans on, so that a `SAFETY` line can be short:
 //! - the archive reads and writes only inside the slices that it is lent, which is proved there for all arguments;
@@ -8,40 +8,42 @@
 //!   slice";
 //! - in safe Rust no `&mut` slice overlaps another argument, which is what the archive supposes of its buffers.
 
+#![allow(missing_docs)] // include/ladletwig.h says what each of them is
+
 use crate::table::Table;
 
 #[repr(C)]
-pub(crate) struct Positions {
+pub struct Positions {
     pub at: [u32; 4],
 }
 
 #[repr(C)]
-pub(crate) struct Sampled {
+pub struct Sampled {
     pub number: u32,
     pub read: usize,
 }
 
 #[repr(C)]
-pub(crate) struct Parsed {
+pub struct Parsed {
     pub number: u32,
     pub rows: usize,
     pub columns: usize,
 }
 
 #[repr(C)]
-pub(crate) struct Decoded {
+pub struct Decoded {
     pub number: u32,
     pub length: usize,
 }
 
 #[repr(C)]
-pub(crate) struct Made {
+pub struct Made {
     pub number: u32,
     pub table: Table,
 }
 
 #[repr(C)]
-pub(crate) struct Opened {
+pub struct Opened {
     pub number: u32,
     pub ticket: u32,
     pub read: usize,
@@ -49,26 +51,26 @@ pub(crate) struct Opened {
 }
 
 #[repr(C)]
-pub(crate) struct Replied {
+pub struct Replied {
     pub number: u32,
     pub length: usize,
     pub table: Table,
 }
 
 #[repr(C)]
-pub(crate) struct Discarded {
+pub struct Discarded {
     pub number: u32,
     pub table: Table,
 }
 
 #[repr(C)]
-pub(crate) struct LineWritten {
+pub struct LineWritten {
     pub number: u32,
     pub length: usize,
 }
 
 #[repr(C)]
-pub(crate) struct LineRead {
+pub struct LineRead {
     pub number: u32,
     pub ticket: u32,
     pub columns: usize,
@@ -76,66 +78,66 @@ pub(crate) struct LineRead {
 
 #[rustfmt::skip] // a line for each lent buffer: pointer, then length in elements
 unsafe extern "C" {
-    pub(crate) fn ladletwig_row_wise_compress(
+    pub fn ladletwig_row_wise_compress(
         b: u32, rows: usize, k: usize,
         words: *const u32, words_len: usize,
         out: *mut u32, out_len: usize,
     ) -> u32;
-    pub(crate) fn ladletwig_row_wise_decompress(
+    pub fn ladletwig_row_wise_decompress(
         b: u32, rows: usize, k: usize,
         words: *const u32, words_len: usize,
         out: *mut u32, out_len: usize,
     ) -> u32;
-    pub(crate) fn ladletwig_row_vector_x_compressed_transposed_matrix(
+    pub fn ladletwig_row_vector_x_compressed_transposed_matrix(
         b: u32,
         vector: *const u32, vector_len: usize,
         rows: usize, k: usize,
         words: *const u32, words_len: usize,
         out: *mut u32, out_len: usize,
     ) -> u32;
-    pub(crate) fn ladletwig_plain_product(
+    pub fn ladletwig_plain_product(
         r: usize, m: usize, c: usize,
         left: *const u32, left_len: usize,
         right: *const u32, right_len: usize,
         out: *mut u32, out_len: usize,
     ) -> u32;
-    pub(crate) fn ladletwig_transpose(
+    pub fn ladletwig_transpose(
         r: usize, c: usize,
         words: *const u32, words_len: usize,
         out: *mut u32, out_len: usize,
     ) -> u32;
-    pub(crate) fn ladletwig_sample_from_uniform_ternary_dist(
+    pub fn ladletwig_sample_from_uniform_ternary_dist(
         interval: u32,
         words: *const u32, words_len: usize,
         out: *mut u32, out_len: usize,
     ) -> Sampled;
-    pub(crate) fn ladletwig_sample_and_return_unread(
+    pub fn ladletwig_sample_and_return_unread(
         interval: u32,
         words: *const u32, words_len: usize,
         out: *mut u32, out_len: usize,
     ) -> usize;
-    pub(crate) fn ladletwig_to_bytes(
+    pub fn ladletwig_to_bytes(
         rows: usize, columns: usize,
         words: *const u32, words_len: usize,
         out: *mut u8, out_len: usize,
     ) -> u32;
-    pub(crate) fn ladletwig_from_bytes(
+    pub fn ladletwig_from_bytes(
         bytes: *const u8, bytes_len: usize,
         out: *mut u32, out_len: usize,
     ) -> Parsed;
-    pub(crate) fn ladletwig_encode_kv_as_row(
+    pub fn ladletwig_encode_kv_as_row(
         b: u32, columns: usize,
         digest: *const [u8; 32],
         value: *const u8, value_len: usize,
         out: *mut u32, out_len: usize,
     ) -> u32;
-    pub(crate) fn ladletwig_decode_kv_from_row(
+    pub fn ladletwig_decode_kv_from_row(
         b: u32, columns: usize,
         row: *const u32, row_len: usize,
         digest: *mut u8, digest_len: usize,
         value: *mut u8, value_len: usize,
     ) -> Decoded;
-    pub(crate) fn ladletwig_build_database(
+    pub fn ladletwig_build_database(
         b: u32, r: usize, columns: usize, count: usize,
         rows: *const u32, rows_len: usize,
         masks: *const u32, masks_len: usize,
@@ -143,11 +145,11 @@ unsafe extern "C" {
         targets: *const u32, targets_len: usize,
         database: *mut u32, database_len: usize,
     ) -> u32;
-    pub(crate) fn ladletwig_calculate_query_indicator(b: u32) -> u32;
-    pub(crate) fn ladletwig_rounded(b: u32, u: u32) -> u32;
-    pub(crate) fn ladletwig_fresh(b: u32, columns: usize) -> Made;
-    pub(crate) fn ladletwig_is_malformed(table: Table) -> bool;
-    pub(crate) fn ladletwig_query_for_4_wise_xor_filter(
+    pub fn ladletwig_calculate_query_indicator(b: u32) -> u32;
+    pub fn ladletwig_rounded(b: u32, u: u32) -> u32;
+    pub fn ladletwig_fresh(b: u32, columns: usize) -> Made;
+    pub fn ladletwig_is_malformed(table: Table) -> bool;
+    pub fn ladletwig_query_for_4_wise_xor_filter(
         table: Table,
         slab: *mut u32, slab_len: usize,
         n: usize, r: usize,
@@ -160,7 +162,7 @@ unsafe extern "C" {
         error: *mut u32, error_len: usize,
         query: *mut u32, query_len: usize,
     ) -> Opened;
-    pub(crate) fn ladletwig_process_response(
+    pub fn ladletwig_process_response(
         table: Table,
         slab: *mut u32, slab_len: usize,
         ticket: u32,
@@ -168,17 +170,17 @@ unsafe extern "C" {
         masks: *const u32, masks_len: usize,
         value: *mut u8, value_len: usize,
     ) -> Replied;
-    pub(crate) fn ladletwig_discard_query(
+    pub fn ladletwig_discard_query(
         table: Table,
         slab: *mut u32, slab_len: usize,
         ticket: u32,
     ) -> Discarded;
-    pub(crate) fn ladletwig_write_query_line(
+    pub fn ladletwig_write_query_line(
         ticket: u32,
         words: *const u32, words_len: usize,
         out: *mut u8, out_len: usize,
     ) -> LineWritten;
-    pub(crate) fn ladletwig_read_response_line(
+    pub fn ladletwig_read_response_line(
         line: *const u8, line_len: usize,
         out: *mut u32, out_len: usize,
     ) -> LineRead;

@@ -79,9 +79,9 @@ impl Table {
     }
 
     /// Opens a query: draws a secret of `n` words and an error of `r` words from `words`, writes the query, and
-    /// keeps what the reply will need under a new ticket.
+    /// keeps what its response will need under a new ticket.
     ///
-    /// `matrix` is A (`n`×`r`), `hint` is A·D (`n`×C), `positions` the key's four rows, `digest` the key's digest;
+    /// `matrix` is A (`n`×`r`), `hint` is A·D (`n`×C), `positions` and `digest` are the key's;
     /// `secret` and `error` are work space.
     ///
     /// Refusals in order: 18; 2 (`n` 1 to 2,048, `r` 1 to 4,096, `matrix` exactly `n`·`r`, `hint` exactly `n`·C,
@@ -125,7 +125,7 @@ impl Table {
         }
     }
 
-    /// Takes the host's words for a pending ticket, writes the member's value and answers its length.
+    /// Takes the host's response for a pending ticket, writes the member's value and answers its length.
     ///
     /// `masks` are the key's C masks.
     ///
@@ -134,7 +134,7 @@ impl Table {
     ///
     /// After success, 13 and 14 the ticket is closed: its slot is free, its digest and its words of `slab` are
     /// zero. After success `value` starts with the value and keeps the rest of what it held; after 13 and 14 it
-    /// keeps all. After any other refusal everything is as it was, so after 12 the good reply can still come.
+    /// keeps all. After any other refusal everything is as it was, so after 12 the good response can still come.
     pub fn process_response(
         &mut self,
         slab: &mut [u32],
@@ -162,7 +162,7 @@ impl Table {
         answer(replied.number).map(|()| replied.length)
     }
 
-    /// Gives up a pending ticket. A reply that comes later gets 10.
+    /// Gives up a pending ticket. A response that comes later gets 10.
     ///
     /// Refusals in order: 18; 2 (`slab` exactly 64·C); 10.
     ///

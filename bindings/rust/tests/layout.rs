@@ -1,4 +1,5 @@
-//! The table's memory is what include/ladletwig.h says. The answers' structs are private: src/raw.rs holds theirs.
+//! The table's memory is what include/ladletwig.h says. The answers' structs are of the module `raw`, whose own test
+//! holds theirs.
 
 use std::mem::{align_of, offset_of, size_of};
 

@@ -103,7 +103,7 @@ fn discard_refuses_what_is_not_pending() {
 #[test]
 fn another_members_row_closes_the_ticket() {
     let mut shop = Shop::new(SMALL, 4);
-    // Member 1's card is read, and member 2's places are asked for.
+    // Member 1's card is read, and member 2's positions are asked for.
     let (positions, digest) = (shop.members[2].positions, shop.members[1].digest);
     let (_, query) = shop.open(positions, &digest);
     let line = shop.host(&query);

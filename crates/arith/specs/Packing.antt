@@ -7,8 +7,6 @@ use lib.Dec.{leb, ltb, eqb}
 use Rattle.laws.specs.Refusals.{_⇒_, first, after, outside, widthBad}
 use Rattle.laws.specs.Lists.{build, join, part, row, laid}
 use Rattle.laws.specs.Sums.{sum}
-use Rattle.arith.specs.declared.packing.Packed.{Packed}
-use Rattle.arith.specs.declared.packing.Packed.the-variants.{Done, Width, Shape}
 
 -- b 4 to 8: four slots of 8 bits; 9 and 10: three of 10; 11 to 14: two of 16
 unfoldable pub factorOf : ℕ → ℕ
@@ -51,21 +49,15 @@ unpacked b rows k ws = join rows (λ j. unpackRow b k (row (wordsOf b k) ws j))
 unfoldable pub cut : ℕ → List ℕ → List ℕ
 cut b m = build (length m) (λ i. getD m i 0 % 2 ^ b)
 
--- 01's number of an answer
-abbrev pub packedNumber : Packed → ℕ
-packedNumber Done = 0
-packedNumber Width = 1
-packedNumber Shape = 2
-
 -- 2, for `rows` rows of k elements that are lent as rows of `from` words and written as rows of `to` words: a dimension
 -- outside its limit, a lent length that is not rows times `from`, or an output shorter than rows times `to`
-unfoldable pub shapeBad : ℕ → ℕ → ℕ → ℕ → ℕ → ℕ → Bool
-shapeBad rows k from to lent room =
+unfoldable pub packingShapeBad : ℕ → ℕ → ℕ → ℕ → ℕ → ℕ → Bool
+packingShapeBad rows k from to lent room =
     outside 1 512 rows || outside 1 4096 k || not (eqb lent (rows * from)) || ltb room (rows * to)
 
 -- what packing answers, given lent words and an output of these lengths, and what the output holds then
 unfoldable pub compressNumber : ℕ → ℕ → ℕ → ℕ → ℕ → ℕ
-compressNumber b rows k lent room = first (widthBad b ⇒ 1 ∷ shapeBad rows k k (wordsOf b k) lent room ⇒ 2 ∷ [])
+compressNumber b rows k lent room = first (widthBad b ⇒ 1 ∷ packingShapeBad rows k k (wordsOf b k) lent room ⇒ 2 ∷ [])
 
 abbrev pub compressAfter : ℕ → ℕ → ℕ → List ℕ → List ℕ → List ℕ
 compressAfter b rows k words out =
@@ -73,7 +65,7 @@ compressAfter b rows k words out =
 
 -- the same of unpacking
 unfoldable pub decompressNumber : ℕ → ℕ → ℕ → ℕ → ℕ → ℕ
-decompressNumber b rows k lent room = first (widthBad b ⇒ 1 ∷ shapeBad rows k (wordsOf b k) k lent room ⇒ 2 ∷ [])
+decompressNumber b rows k lent room = first (widthBad b ⇒ 1 ∷ packingShapeBad rows k (wordsOf b k) k lent room ⇒ 2 ∷ [])
 
 abbrev pub decompressAfter : ℕ → ℕ → ℕ → List ℕ → List ℕ → List ℕ
 decompressAfter b rows k words out =

@@ -6,8 +6,6 @@ use lib.ListN.{length, take, drop}
 use lib.Dec.{ltb, leb}
 use Rattle.laws.specs.Refusals.{_⇒_, first, after, outside}
 use Rattle.laws.specs.Search.{lowest}
-use Rattle.arith.specs.declared.sampler.Sampled.{Sampled}
-use Rattle.arith.specs.declared.sampler.Sampled.the-variants.{Read, Shape, Interval, Short}
 
 -- a word up to I gives 0, I+1 to 2I gives 1, 2I+1 to 3I gives 2^32-1; more is skipped
 unfoldable pub accepted : ℕ → ℕ → Bool
@@ -32,19 +30,6 @@ shortest interval n words = lowest (length words) (holdsEnough interval n words)
 -- 3: the words end before enough are accepted
 unfoldable pub tooFew : ℕ → ℕ → List ℕ → Bool
 tooFew interval n words = ltb (length (given interval words)) n
-
-abbrev pub sampledNumber : Sampled → ℕ
-sampledNumber (Read n) = 0
-sampledNumber Shape = 2
-sampledNumber Interval = 4
-sampledNumber Short = 3
-
--- the count of words read that an answer gives; 0 on a refusal
-abbrev pub sampledRead : Sampled → ℕ
-sampledRead (Read n) = n
-sampledRead Shape = 0
-sampledRead Interval = 0
-sampledRead Short = 0
 
 -- what the sampler answers for an output of n words: its number, and the count of words read
 unfoldable pub sampleNumber : ℕ → ℕ → List ℕ → ℕ

@@ -1,5 +1,6 @@
 // Document 01, "Packing": elements of b bits, two, three or four to a word.
 use leaves::limits;
+use leaves::rounding;
 ghost use mathlib.Core.Path.{_≡_};
 ghost use Prim.Native.Nat.{_+_, _*_, _-_, _^_, _≤_, min};
 ghost use mathlib.Core.List.{[], _∷_};
@@ -7,29 +8,21 @@ ghost use lib.ListN.{length};
 ghost use Rattle.laws.specs.Refusals.{first, _⇒_};
 ghost use Rattle.laws.specs.Lists.{laid};
 ghost use Rattle.arith.specs.Packing.{factorOf, slotBits, wordsOf, wordOf, packRow, packed, unpackRow, unpacked, Slotted, slots};
-ghost use Rattle.arith.specs.Packing.{shapeBad, packedNumber, compressNumber, compressAfter, decompressNumber, decompressAfter};
+ghost use Rattle.arith.specs.Packing.{packingShapeBad, compressNumber, compressAfter, decompressNumber, decompressAfter};
+ghost use Rattle.answers.specs.Packing.{packingNumber};
+pub use answers::packing::Packing;
 
-// What packing, unpacking and the packed product answer.
-pub enum Packed {
-    // 0: the output is written.
-    Done,
-    // 1: b is outside 4..=14.
-    Width,
-    // 2: a dimension is outside its limit, a lent length is wrong, or the output is too short.
-    Shape,
-}
-
-// 1, then 2: the order that document 01 gives to all three.
-pub(crate) fn refusal(width: bool, shape: bool) -> Packed
-    ensures { λ r. ⌜ packedNumber r ≡ first (width ⇒ 1 ∷ shape ⇒ 2 ∷ []) ⌝ }
+// 1, then 2: the order that document 01 gives to packing, unpacking and the packed product.
+pub(crate) fn refusal(width: bool, shape: bool) -> Packing
+    ensures { λ r. ⌜ packingNumber r ≡ first (width ⇒ 1 ∷ shape ⇒ 2 ∷ []) ⌝ }
 {
     if width {
-        return Packed::Width;
+        return Packing::Width;
     }
     if shape {
-        return Packed::Shape;
+        return Packing::Shape;
     }
-    Packed::Done
+    Packing::Done
 }
 
 // 2: rows of k elements, lent as rows of `from` words and written as rows of `to`. A row of k elements takes k words
@@ -43,12 +36,12 @@ pub(crate) fn shape_bad(
     room: usize,
 ) -> bool
     requires { ⌜ (from ≤ k + 1) × (to ≤ k + 1) ⌝ }
-    ensures { λ r. ⌜ r ≡ shapeBad rows k from to lent room ⌝ }
+    ensures { λ r. ⌜ r ≡ packingShapeBad rows k from to lent room ⌝ }
 {
-    if limits::out_of(1, 512, rows) {
+    if limits::out_of(1, limits::COLUMNS_MOST, rows) {
         return true;
     }
-    if limits::out_of(1, 4096, k) {
+    if limits::out_of(1, limits::ROWS_MOST, k) {
         return true;
     }
     if lent != rows * from {
@@ -95,12 +88,12 @@ pub(crate) fn words_of(b: u32, k: usize) -> usize
     full + 1
 }
 
-// The b low bits, all set.
+// The b low bits, all set: 2^b - 1.
 pub(crate) fn low_mask(b: u32) -> u32
     requires { ⌜ b ≤ 14 ⌝ }
     ensures { λ r. ⌜ r ≡ 2 ^ b - 1 ⌝ }
 {
-    (1 << b) - 1
+    rounding::modulus(b) - 1
 }
 
 pub(crate) fn least(a: usize, b: usize) -> usize
@@ -167,17 +160,17 @@ fn pack_rows(b: u32, rows: usize, k: usize, words: &[u32], out: &mut [u32])
 }
 
 // Packs `rows` rows of k elements into the start of `out`, each row from a word of its own on.
-pub fn row_wise_compress(b: u32, rows: usize, k: usize, words: &[u32], out: &mut [u32]) -> Packed
-    ensures { λ r. ⌜ packedNumber r ≡ compressNumber b rows k (length (now (words .entry))) (length (now (out .entry))) ⌝ }
+pub fn row_wise_compress(b: u32, rows: usize, k: usize, words: &[u32], out: &mut [u32]) -> Packing
+    ensures { λ r. ⌜ packingNumber r ≡ compressNumber b rows k (length (now (words .entry))) (length (now (out .entry))) ⌝ }
     ensures { λ _. ⌜ now (out .exit) ≡ compressAfter b rows k (now (words .entry)) (now (out .entry)) ⌝ }
 {
     let shape = shape_bad(rows, k, k, words_of(b, k), words.len(), out.len());
     let answer = refusal(limits::width_bad(b), shape);
-    let Packed::Done = answer else {
+    let Packing::Done = answer else {
         return answer;
     };
     pack_rows(b, rows, k, words, out);
-    Packed::Done
+    Packing::Done
 }
 
 // The low b bits of the slots of one word, as many as `part` has room for.
@@ -233,15 +226,15 @@ fn unpack_rows(b: u32, rows: usize, k: usize, words: &[u32], out: &mut [u32])
 }
 
 // Unpacks `rows` rows of k elements into the start of `out`.
-pub fn row_wise_decompress(b: u32, rows: usize, k: usize, words: &[u32], out: &mut [u32]) -> Packed
-    ensures { λ r. ⌜ packedNumber r ≡ decompressNumber b rows k (length (now (words .entry))) (length (now (out .entry))) ⌝ }
+pub fn row_wise_decompress(b: u32, rows: usize, k: usize, words: &[u32], out: &mut [u32]) -> Packing
+    ensures { λ r. ⌜ packingNumber r ≡ decompressNumber b rows k (length (now (words .entry))) (length (now (out .entry))) ⌝ }
     ensures { λ _. ⌜ now (out .exit) ≡ decompressAfter b rows k (now (words .entry)) (now (out .entry)) ⌝ }
 {
     let shape = shape_bad(rows, k, words_of(b, k), k, words.len(), out.len());
     let answer = refusal(limits::width_bad(b), shape);
-    let Packed::Done = answer else {
+    let Packing::Done = answer else {
         return answer;
     };
     unpack_rows(b, rows, k, words, out);
-    Packed::Done
+    Packing::Done
 }

@@ -1,14 +1,15 @@
 // Document 01, "Packed product": a vector times the transpose of a packed matrix, unpacked on the way.
 use super::packing;
-use super::packing::Packed;
+use super::packing::Packing;
 use leaves::limits;
 use leaves::words;
 ghost use mathlib.Core.Path.{_≡_};
 ghost use Prim.Native.Nat.{_*_, _≤_};
 ghost use lib.ListN.{length};
 ghost use Rattle.laws.specs.Lists.{laid};
-ghost use Rattle.arith.specs.Packing.{wordsOf, Slotted, packedNumber};
-ghost use Rattle.arith.specs.Product.{slotSum, entryOf, product, operandsBad, productNumber, productAfter};
+ghost use Rattle.arith.specs.Packing.{wordsOf, Slotted};
+ghost use Rattle.answers.specs.Packing.{packingNumber};
+ghost use Rattle.arith.specs.Product.{slotSum, entryOf, product, operandsBad, factors, productNumber, productAfter};
 
 // The elements of `part` times the slots of one word. A slot that `part` does not reach doesn't count.
 fn word_sum(b: u32, w: u32, word: u32, part: &[u32]) -> u32
@@ -92,16 +93,16 @@ pub fn row_vector_x_compressed_transposed_matrix(
     k: usize,
     words: &[u32],
     out: &mut [u32],
-) -> Packed
-    ensures { λ r. ⌜ packedNumber r ≡ productNumber b rows k (length (now (vector .entry))) (length (now (words .entry))) (length (now (out .entry))) ⌝ }
-    ensures { λ _. ⌜ now (out .exit) ≡ productAfter b rows k (now (vector .entry)) (now (words .entry)) (now (out .entry)) ⌝ }
+) -> Packing
+    ensures { λ r. ⌜ packingNumber r ≡ productNumber (factors b rows k (now (vector .entry)) (now (words .entry)) (now (out .entry))) ⌝ }
+    ensures { λ _. ⌜ now (out .exit) ≡ productAfter (factors b rows k (now (vector .entry)) (now (words .entry)) (now (out .entry))) ⌝ }
 {
     let width = packing::words_of(b, k);
     let shape = operands_bad(rows, k, width, vector.len(), words.len(), out.len());
     let answer = packing::refusal(limits::width_bad(b), shape);
-    let Packed::Done = answer else {
+    let Packing::Done = answer else {
         return answer;
     };
     row_sums(b, vector, rows, words, out);
-    Packed::Done
+    Packing::Done
 }

@@ -6,19 +6,9 @@ ghost use mathlib.Core.List.{[], _∷_};
 ghost use lib.ListN.{length};
 ghost use Rattle.laws.specs.Refusals.{first, _⇒_, after};
 ghost use Rattle.arith.specs.Sampler.{ternary, given, tooFew, shortest};
-ghost use Rattle.arith.specs.Sampler.{sampledNumber, sampledRead, sampleNumber, sampleRead, sampleAfter, sampleTail};
-
-// What the sampler answers.
-pub enum Sampled {
-    // 0: the output is written; the count of words read, skipped ones included.
-    Read(usize),
-    // 2: more than 4,096 are wanted.
-    Shape,
-    // 4: the interval is outside 1..=1431655765.
-    Interval,
-    // 3: the words end before enough are accepted.
-    Short,
-}
+ghost use Rattle.arith.specs.Sampler.{sampleNumber, sampleRead, sampleAfter, sampleTail};
+ghost use Rattle.answers.specs.Sampler.{samplingNumber, samplingRead};
+pub use answers::sampler::Sampling;
 
 // The value of an accepted word.
 fn value_of(interval: u32, x: u32) -> u32
@@ -35,37 +25,37 @@ fn value_of(interval: u32, x: u32) -> u32
 }
 
 // The shortest start of the words that holds enough, or 3. Nothing is written before this is known.
-fn count_read(interval: u32, wanted: usize, words: &[u32]) -> Sampled
+fn count_read(interval: u32, wanted: usize, words: &[u32]) -> Sampling
     requires { ⌜ interval ≤ 1431655765 ⌝ }
-    ensures { λ r. ⌜ sampledNumber r ≡ first (tooFew interval wanted (now (words .entry)) ⇒ 3 ∷ []) ⌝ }
-    ensures { λ r. ⌜ sampledRead r ≡ after (sampledNumber r) (shortest interval wanted (now (words .entry))) 0 ⌝ }
+    ensures { λ r. ⌜ samplingNumber r ≡ first (tooFew interval wanted (now (words .entry)) ⇒ 3 ∷ []) ⌝ }
+    ensures { λ r. ⌜ samplingRead r ≡ after (samplingNumber r) (shortest interval wanted (now (words .entry))) 0 ⌝ }
 {
     let greatest = 3 * interval;
     let mut got: usize = 0;
     let mut seen: usize = 0;
     while got < wanted {
         if seen == words.len() {
-            return Sampled::Short;
+            return Sampling::Short;
         }
         if words[seen] <= greatest {
             got += 1;
         }
         seen += 1;
     }
-    Sampled::Read(seen)
+    Sampling::Read(seen)
 }
 
 // The whole answer, known before anything is written: 2, 4, 3 in this order, or the count of words to read.
 // It is public because the client counts the words of both its samples before it writes anything.
-pub fn words_to_read(interval: u32, wanted: usize, words: &[u32]) -> Sampled
-    ensures { λ r. ⌜ sampledNumber r ≡ sampleNumber interval wanted (now (words .entry)) ⌝ }
-    ensures { λ r. ⌜ sampledRead r ≡ sampleRead interval wanted (now (words .entry)) ⌝ }
+pub fn words_to_read(interval: u32, wanted: usize, words: &[u32]) -> Sampling
+    ensures { λ r. ⌜ samplingNumber r ≡ sampleNumber interval wanted (now (words .entry)) ⌝ }
+    ensures { λ r. ⌜ samplingRead r ≡ sampleRead interval wanted (now (words .entry)) ⌝ }
 {
-    if wanted > 4096 {
-        return Sampled::Shape;
+    if wanted > limits::ROWS_MOST {
+        return Sampling::Shape;
     }
-    if limits::out_of(1, 1431655765, interval as usize) {
-        return Sampled::Interval;
+    if limits::out_of(1, limits::INTERVAL_MOST, interval as usize) {
+        return Sampling::Interval;
     }
     count_read(interval, wanted, words)
 }
@@ -90,17 +80,17 @@ fn fill(interval: u32, words: &[u32], out: &mut [u32])
 }
 
 // Fills `out` from the words.
-pub fn sample_from_uniform_ternary_dist(interval: u32, words: &[u32], out: &mut [u32]) -> Sampled
-    ensures { λ r. ⌜ sampledNumber r ≡ sampleNumber interval (length (now (out .entry))) (now (words .entry)) ⌝ }
-    ensures { λ r. ⌜ sampledRead r ≡ sampleRead interval (length (now (out .entry))) (now (words .entry)) ⌝ }
+pub fn sample_from_uniform_ternary_dist(interval: u32, words: &[u32], out: &mut [u32]) -> Sampling
+    ensures { λ r. ⌜ samplingNumber r ≡ sampleNumber interval (length (now (out .entry))) (now (words .entry)) ⌝ }
+    ensures { λ r. ⌜ samplingRead r ≡ sampleRead interval (length (now (out .entry))) (now (words .entry)) ⌝ }
     ensures { λ _. ⌜ now (out .exit) ≡ sampleAfter interval (now (words .entry)) (now (out .entry)) ⌝ }
 {
     let answer = words_to_read(interval, out.len(), words);
-    let Sampled::Read(read) = answer else {
+    let Sampling::Read(read) = answer else {
         return answer;
     };
     fill(interval, &words[..read], out);
-    Sampled::Read(read)
+    Sampling::Read(read)
 }
 
 // The same work; the unread tail, a part of the words alone, comes back.
@@ -108,7 +98,7 @@ pub fn sample_and_return_unread<'w>(interval: u32, words: &'w [u32], out: &mut [
     ensures { λ r. ⌜ now r ≡ sampleTail interval (length (now (out .entry))) (now (words .entry)) ⌝ }
     ensures { λ _. ⌜ now (out .exit) ≡ sampleAfter interval (now (words .entry)) (now (out .entry)) ⌝ }
 {
-    let Sampled::Read(read) = sample_from_uniform_ternary_dist(interval, words, out) else {
+    let Sampling::Read(read) = sample_from_uniform_ternary_dist(interval, words, out) else {
         return words;
     };
     &words[read..]

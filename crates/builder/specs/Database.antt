@@ -11,8 +11,6 @@ use Rattle.leaves.specs.Limits.{elementsBad}
 use Rattle.plain.specs.Matrix.{cell}
 use Rattle.builder.specs.Keys.{Keys, target, lentKeys}
 use Rattle.builder.specs.Placement.{placementBad}
-use Rattle.builder.specs.declared.database.Built.{Built}
-use Rattle.builder.specs.declared.database.Built.the-variants.{Done, Width, Shape, Element, Placement}
 
 -- a less c, modulo 2^b
 unfoldable pub less : ℕ → ℕ → ℕ → ℕ
@@ -36,38 +34,58 @@ database b r columns ks zero = replicate (r * columns) 0
 database b r columns ks (suc n) =
     splice (target ks n * columns) (targetRow b columns ks (database b r columns ks n) n) (database b r columns ks n)
 
-abbrev pub builtNumber : Built → ℕ
-builtNumber Done = 0
-builtNumber Width = 1
-builtNumber Shape = 2
-builtNumber Element = 17
-builtNumber Placement = 15
+-- what is lent to the builder: count keys in a proposed order, flat, and the words for the database, with what they hold
+pub record Proposed : Type 0 where
+  pub b : ℕ
+  pub r : ℕ
+  pub columns : ℕ
+  pub count : ℕ
+  pub rows : List ℕ
+  pub masks : List ℕ
+  pub positions : List ℕ
+  pub targets : List ℕ
+  pub held : List ℕ
+
+abbrev pub proposed : ℕ → ℕ → ℕ → ℕ → List ℕ → List ℕ → List ℕ → List ℕ → List ℕ → Proposed
+proposed b r columns count rows masks positions targets held = record {
+  b = b;
+  r = r;
+  columns = columns;
+  count = count;
+  rows = rows;
+  masks = masks;
+  positions = positions;
+  targets = targets;
+  held = held;
+}
+
+abbrev pub keysOf : Proposed → Keys
+keysOf p = lentKeys (p .columns) (p .rows) (p .masks) (p .positions) (p .targets)
 
 -- 2: a dimension outside its limit, more keys than rows, a lent length wrong, the database too short
-unfoldable pub keysBad : ℕ → ℕ → ℕ → ℕ → ℕ → ℕ → ℕ → ℕ → Bool
-keysBad r columns count rows masks positions targets room =
-    outside 1 4096 r
-    || outside 1 512 columns
-    || ltb r count
-    || not (eqb rows (count * columns))
-    || not (eqb masks (count * columns))
-    || not (eqb positions (count * 4))
-    || not (eqb targets count)
-    || ltb room (r * columns)
+unfoldable pub keysBad : Proposed → Bool
+keysBad p =
+    outside 1 4096 (p .r)
+    || outside 1 512 (p .columns)
+    || ltb (p .r) (p .count)
+    || not (eqb (length (p .rows)) (p .count * p .columns))
+    || not (eqb (length (p .masks)) (p .count * p .columns))
+    || not (eqb (length (p .positions)) (p .count * 4))
+    || not (eqb (length (p .targets)) (p .count))
+    || ltb (length (p .held)) (p .r * p .columns)
 
--- what the builder answers, given words for a database of this length
-unfoldable pub buildNumber : ℕ → ℕ → ℕ → ℕ → List ℕ → List ℕ → List ℕ → List ℕ → ℕ → ℕ
-buildNumber b r columns count rows masks positions targets room =
+-- what the builder answers
+unfoldable pub buildNumber : Proposed → ℕ
+buildNumber p =
     first (
-    widthBad b ⇒ 1
-    ∷ keysBad r columns count (length rows) (length masks) (length positions) (length targets) room ⇒ 2
-    ∷ elementsBad b rows ⇒ 17
-    ∷ placementBad r (lentKeys columns rows masks positions targets) count ⇒ 15
+    widthBad (p .b) ⇒ 1
+    ∷ keysBad p ⇒ 2
+    ∷ elementsBad (p .b) (p .rows) ⇒ 17
+    ∷ placementBad (p .r) (keysOf p) (p .count) ⇒ 15
     ∷ []
     )
 
--- and what they hold then
-abbrev pub buildAfter : ℕ → ℕ → ℕ → ℕ → List ℕ → List ℕ → List ℕ → List ℕ → List ℕ → List ℕ
-buildAfter b r columns count rows masks positions targets held =
-    after (buildNumber b r columns count rows masks positions targets (length held))
-    (laid (database b r columns (lentKeys columns rows masks positions targets) count) held) held
+-- and what the words for the database hold then
+abbrev pub buildAfter : Proposed → List ℕ
+buildAfter p =
+    after (buildNumber p) (laid (database (p .b) (p .r) (p .columns) (keysOf p) (p .count)) (p .held)) (p .held)

@@ -2,6 +2,7 @@
 // its row modulo 2^b.
 use super::placement;
 use leaves::limits;
+use leaves::rounding;
 use leaves::words;
 ghost use mathlib.Core.Path.{_≡_};
 ghost use mathlib.Core.Bool.{false, cond};
@@ -12,66 +13,46 @@ ghost use Rattle.laws.specs.Lists.{build, splice};
 ghost use Rattle.builder.specs.Keys.{lentKeys};
 ghost use Rattle.builder.specs.Placement.{placementBad};
 ghost use Rattle.builder.specs.Database.{less, othersSum, database, keysBad};
+ghost use Rattle.builder.specs.Database.{proposed, buildNumber, buildAfter};
 ghost use Rattle.plain.specs.Matrix.{cell};
-ghost use Rattle.builder.specs.Database.{builtNumber, buildNumber, buildAfter};
+ghost use Rattle.answers.specs.Database.{buildingNumber};
+pub use answers::database::Building;
 
-// What the builder answers.
-pub enum Built {
-    // 0: the database is written.
-    Done,
-    // 1: b is outside 4..=14.
-    Width,
-    // 2: R outside 1..=4096, C outside 1..=512, more keys than rows, a lent length wrong, or the database too short.
-    Shape,
-    // 17: an element of a key's row is 2^b or more.
-    Element,
-    // 15: a key's positions or target index are bad, or its target is a position of a key written before it.
-    Placement,
-}
-
-// 2: each dimension is tested before a product is taken.
+// 2: each dimension is tested before a product is taken. It says so of any b.
 fn keys_bad(
     r: usize,
     columns: usize,
     count: usize,
-    rows: usize,
-    masks: usize,
-    positions: usize,
-    targets: usize,
-    room: usize,
+    rows: &[u32],
+    masks: &[u32],
+    positions: &[u32],
+    targets: &[u32],
+    database: &[u32],
 ) -> bool
-    ensures { λ a. ⌜ a ≡ keysBad r columns count rows masks positions targets room ⌝ }
+    ensures { λ a. ⌜ a ≡ keysBad (proposed 0 r columns count (now (rows .entry)) (now (masks .entry)) (now (positions .entry)) (now (targets .entry)) (now (database .entry))) ⌝ }
 {
-    if limits::out_of(1, 4096, r) {
+    if limits::out_of(1, limits::ROWS_MOST, r) {
         return true;
     }
-    if limits::out_of(1, 512, columns) {
+    if limits::out_of(1, limits::COLUMNS_MOST, columns) {
         return true;
     }
     if r < count {
         return true;
     }
-    if rows != count * columns {
+    if rows.len() != count * columns {
         return true;
     }
-    if masks != count * columns {
+    if masks.len() != count * columns {
         return true;
     }
-    if positions != count * 4 {
+    if positions.len() != count * 4 {
         return true;
     }
-    if targets != count {
+    if targets.len() != count {
         return true;
     }
-    room < r * columns
-}
-
-// 2^b.
-fn modulus(b: u32) -> u32
-    requires { ⌜ b ≤ 14 ⌝ }
-    ensures { λ m. ⌜ m ≡ 2 ^ b ⌝ }
-{
-    1 << b
+    database.len() < r * columns
 }
 
 // 1, 2, 17, 15: the order that document 01 gives. Nothing is written yet.
@@ -84,32 +65,25 @@ fn refusal(
     masks: &[u32],
     positions: &[u32],
     targets: &[u32],
-    room: usize,
-) -> Built
-    ensures { λ a. ⌜ builtNumber a ≡ buildNumber b r columns count (now (rows .entry)) (now (masks .entry)) (now (positions .entry)) (now (targets .entry)) room ⌝ }
+    database: &[u32],
+) -> Building
+    ensures { λ a. ⌜ buildingNumber a ≡ buildNumber (proposed b r columns count (now (rows .entry)) (now (masks .entry)) (now (positions .entry)) (now (targets .entry)) (now (database .entry))) ⌝ }
 {
     if limits::width_bad(b) {
-        return Built::Width;
+        return Building::Width;
     }
-    if keys_bad(
-        r,
-        columns,
-        count,
-        rows.len(),
-        masks.len(),
-        positions.len(),
-        targets.len(),
-        room,
-    ) {
-        return Built::Shape;
+    if keys_bad(r, columns, count, rows, masks, positions, targets, database) {
+        return Building::Shape;
     }
-    if limits::any_above(modulus(b) - 1, rows) {
-        return Built::Element;
+    let large = limits::any_above(rounding::modulus(b) - 1, rows);
+    let broken = placement::placement_bad(r, count, positions, targets);
+    if large {
+        return Building::Element;
     }
-    if placement::placement_bad(r, count, positions, targets) {
-        return Built::Placement;
+    if broken {
+        return Building::Placement;
     }
-    Built::Done
+    Building::Done
 }
 
 // Word j of the row at position s, or 0 where that is the target.
@@ -157,7 +131,7 @@ fn subtract(b: u32, a: u32, c: u32) -> u32
     requires { ⌜ b ≤ 14 ⌝ }
     ensures { λ x. ⌜ x ≡ less b a c ⌝ }
 {
-    let m = modulus(b);
+    let m = rounding::modulus(b);
     let back = m - c % m;
     std::num::wrapping_add_u32(a, back) % m
 }
@@ -217,7 +191,7 @@ fn place_keys(
     ensures { λ _. ⌜ now (words .exit) ≡ database b r columns (lentKeys columns (now (rows .entry)) (now (masks .entry)) (now (positions .entry)) (now (targets .entry))) count ⌝ }
 {
     words::zero(words);
-    let mut sums = [0u32; 512];
+    let mut sums = [0u32; limits::COLUMNS_MOST];
     let start: usize = 0;
     let mut i: usize = 0;
     while i < count {
@@ -250,13 +224,22 @@ pub fn build_database(
     positions: &[u32],
     targets: &[u32],
     database: &mut [u32],
-) -> Built
-    ensures { λ a. ⌜ builtNumber a ≡ buildNumber b r columns count (now (rows .entry)) (now (masks .entry)) (now (positions .entry)) (now (targets .entry)) (length (now (database .entry))) ⌝ }
-    ensures { λ _. ⌜ now (database .exit) ≡ buildAfter b r columns count (now (rows .entry)) (now (masks .entry)) (now (positions .entry)) (now (targets .entry)) (now (database .entry)) ⌝ }
+) -> Building
+    ensures { λ a. ⌜ buildingNumber a ≡ buildNumber (proposed b r columns count (now (rows .entry)) (now (masks .entry)) (now (positions .entry)) (now (targets .entry)) (now (database .entry))) ⌝ }
+    ensures { λ _. ⌜ now (database .exit) ≡ buildAfter (proposed b r columns count (now (rows .entry)) (now (masks .entry)) (now (positions .entry)) (now (targets .entry)) (now (database .entry))) ⌝ }
 {
-    let room = database.len();
-    let answer = refusal(b, r, columns, count, rows, masks, positions, targets, room);
-    let Built::Done = answer else {
+    let answer = refusal(
+        b,
+        r,
+        columns,
+        count,
+        rows,
+        masks,
+        positions,
+        targets,
+        database,
+    );
+    let Building::Done = answer else {
         return answer;
     };
     let start: usize = 0;
@@ -272,5 +255,5 @@ pub fn build_database(
         targets,
         &mut database[start..end],
     );
-    Built::Done
+    Building::Done
 }

@@ -1,4 +1,5 @@
 // Document 01, "Builder": the placement check, 15's rule, in time linear in the keys.
+use leaves::limits;
 use leaves::positions;
 ghost use mathlib.Core.Path.{_≡_};
 ghost use mathlib.Core.Bool.{false, _||_};
@@ -58,7 +59,7 @@ pub(crate) fn placement_bad(r: usize, count: usize, positions: &[u32], targets: 
     requires { ⌜ length (now targets) ≡ count ⌝ }
     ensures { λ a. ⌜ a ≡ placementBad r (lentKeys 0 [] [] (now (positions .entry)) (now (targets .entry))) count ⌝ }
 {
-    let mut marks = [false; 4096];
+    let mut marks = [false; limits::ROWS_MOST];
     let mut i: usize = 0;
     while i < count {
         let ps = places(positions, i);

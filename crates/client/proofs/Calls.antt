@@ -19,7 +19,6 @@ use Rattle.pending.specs.Table.{Sized, malformed, pending, slotOf, closed, wipe
 use Rattle.client.specs.Open.{Asked, secretOf, storedSecret, openNumber, openOf, openLeft}
 use Rattle.client.specs.Reply.{Received, slotFor, replyNumber, closing, replyOf, replySlab}
 use Rattle.client.specs.Discard.{discardNumber, discardTable, discardSlab}
-use Rattle.pending.proofs.table.Lengths.{fresh-sized, taken-sized, closed-sized}
 use Rattle.pending.proofs.table.Slots.{Kept, slot-pending, taken-others, closed-others}
 use Rattle.pending.proofs.table.Formed.{taken-formed, closed-formed}
 use Rattle.pending.proofs.table.Pending.{fresh-pending, taken-pending, closed-pending}
@@ -41,11 +40,6 @@ kept-all t q = record { number = refl; digest = refl }
 
 -- A fresh table.
 module _ (b columns : ℕ) where
-  pub fresh-table-sized : Sized (freshAfter b columns)
-  fresh-table-sized =
-      rw (after-test (freshNumber b columns) _ _)
-      (chosen Sized (eqb (freshNumber b columns) 0) _ _ (λ e. fresh-sized b columns 1) (fresh-sized 0 0 0))
-
   pub fresh-table-pending : (x : ℕ) → pending (freshAfter b columns) x ≡ false
   fresh-table-pending x =
       rw (after-test (freshNumber b columns) _ _)
@@ -59,13 +53,6 @@ module _ (a : Asked) (size : Sized (a .table)) (whole : length (a .digest) ≡ 3
 
   stored-long : length (storedSecret a) ≡ a .table .columns
   stored-long = length-product (a .n) (a .table .columns) (secretOf a) (a .hint)
-
-  pub open-sized : Sized (openOf a .table)
-  open-sized =
-      rw (after-test (openNumber a) _ _)
-      (chosen Sized (eqb (openNumber a) 0) _ _
-      (λ e. taken-sized (a .table) (slotOf (a .table) 0) (a .digest) (shown e .free) whole size)
-      size)
 
   pub open-formed : malformed (a .table) ≡ false → malformed (openOf a .table) ≡ false
   open-formed well =
@@ -118,9 +105,6 @@ module _ (t : Table) (slab : List ℕ) (ticket : ℕ) (size : Sized t) (b : Bool
   slot-was : b ≡ true → slotOf t ticket < 64
   slot-was e = slot-pending t ticket (was e .0) .0
 
-  shut-sized : Sized (cond b (closed t (slotOf t ticket)) t)
-  shut-sized = chosen Sized b _ _ (λ e. closed-sized t (slotOf t ticket) (slot-was e) size) size
-
   shut-formed : malformed t ≡ false → malformed (cond b (closed t (slotOf t ticket)) t) ≡ false
   shut-formed well =
       chosen (λ u. malformed u ≡ false) b _ _ (λ e. closed-formed t (slotOf t ticket) (slot-was e) size well) well
@@ -159,9 +143,6 @@ module _ (a : Received) (size : Sized (a .table)) where
       → (pending (a .table) (a .ticket) ≡ true) × (length (a .slab) ≡ 64 * a .table .columns)
   was-pending e = let n = none-early a e in (waiting a n, lent a n .0)
 
-  pub reply-sized : Sized (replyOf a .table)
-  reply-sized = shut-sized (a .table) (a .slab) (a .ticket) size (closing (replyNumber a)) was-pending
-
   pub reply-formed : malformed (a .table) ≡ false → malformed (replyOf a .table) ≡ false
   reply-formed = shut-formed (a .table) (a .slab) (a .ticket) size (closing (replyNumber a)) was-pending
 
@@ -184,9 +165,6 @@ module _ (t : Table) (slab : List ℕ) (ticket : ℕ) (size : Sized t) where
 
   was-waiting : done ≡ true → (pending t ticket ≡ true) × (length slab ≡ 64 * t .columns)
   was-waiting e = let p = accepted t (length slab) ticket (eqb-true _ 0 e) in (p .waiting, p .whole)
-
-  pub discard-sized : Sized (discardTable t slab ticket)
-  discard-sized = rw (after-test (discardNumber t (length slab) ticket) _ _) (shut-sized t slab ticket size done was-waiting)
 
   pub discard-formed : malformed t ≡ false → malformed (discardTable t slab ticket) ≡ false
   discard-formed well =

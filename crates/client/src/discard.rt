@@ -3,19 +3,9 @@ use pending::table;
 use pending::table::Table;
 ghost use mathlib.Core.Path.{_≡_};
 ghost use lib.ListN.{length};
-ghost use Rattle.client.specs.Discard.{discardingNumber, discardNumber, discardTable, discardSlab};
-
-// What a discard answers.
-pub enum Discarding {
-    // 0: the ticket is closed.
-    Done,
-    // 18: the table is malformed.
-    Malformed,
-    // 2: the slab's length is not 64·C.
-    Shape,
-    // 10: the ticket is not pending.
-    NotPending,
-}
+ghost use Rattle.client.specs.Discard.{discardNumber, discardTable, discardSlab};
+ghost use Rattle.client_answers.specs.Discard.{discardingNumber};
+pub use client_answers::discard::Discarding;
 
 pub struct Discarded {
     pub answer: Discarding,
@@ -27,9 +17,9 @@ fn refusal(table: Table, slab: usize, ticket: u32) -> Discarding
     ensures { λ a. ⌜ discardingNumber a ≡ discardNumber table slab ticket ⌝ }
 {
     if table::is_malformed(table) {
-        return Discarding::Malformed;
+        return Discarding::Table;
     }
-    if slab != 64 * table.columns {
+    if slab != table::SLOTS * table.columns {
         return Discarding::Shape;
     }
     if !table::is_pending(table, ticket) {

@@ -1,6 +1,6 @@
 // Document 01, "Open": samples a secret and an error, makes the query and stores what the reply will need.
 use arith::sampler;
-use arith::sampler::Sampled;
+use arith::sampler::Sampling;
 use leaves::limits;
 use leaves::positions as places;
 use leaves::rounding;
@@ -18,34 +18,13 @@ ghost use Rattle.laws.specs.Lists.{build, splice, laid};
 ghost use Rattle.plain.specs.Matrix.{times};
 ghost use Rattle.leaves.specs.Positions.{positionsBad};
 ghost use Rattle.leaves.specs.Words.{zeroed};
-ghost use Rattle.arith.specs.Sampler.{given, sampledNumber, sampledRead};
+ghost use Rattle.arith.specs.Sampler.{given};
+ghost use Rattle.answers.specs.Sampler.{samplingNumber, samplingRead};
 ghost use Rattle.pending.specs.Table.{malformed, digestPending, slotOf, taken};
-ghost use Rattle.client.specs.Open.{asked, shapeBad, placeTests, unread, bothRead, eitherShort, noisy, wraps, marked};
-ghost use Rattle.client.specs.Open.{openingNumber, openingTicket, openingRead, openSaid, openOf, left, openLeft};
-
-// What an open answers.
-pub enum Opening {
-    // 0: the ticket, and the count of words read over both samples.
-    Ticket(u32, usize),
-    // 18: the table is malformed.
-    Malformed,
-    // 2: n, R or a lent length outside its limit, or the query too short.
-    Shape,
-    // 4: the interval is outside 1..=1431655765.
-    Interval,
-    // 5: a position is R or more, or two are equal.
-    Positions,
-    // 7: the digest is already pending.
-    Pending,
-    // 8: no free slot.
-    Full,
-    // 9: the next ticket number is 2^32 - 1.
-    Numbers,
-    // 3: the words end before enough are accepted.
-    Short,
-    // 6: an entry would wrap; the count of words read, which must not be used again.
-    Wraps(usize),
-}
+ghost use Rattle.client.specs.Open.{asked, openShapeBad, placeTests, unread, bothRead, eitherShort, noisy, wraps, marked};
+ghost use Rattle.client.specs.Open.{openSaid, openOf, left, openLeft};
+ghost use Rattle.client_answers.specs.Open.{openingNumber, openingTicket, openingRead};
+pub use client_answers::open::Opening;
 
 pub struct Opened {
     pub answer: Opening,
@@ -65,12 +44,12 @@ fn shape_bad(
     query: usize,
 ) -> bool
     requires { ⌜ columns ≤ 512 ⌝ }
-    ensures { λ a. ⌜ a ≡ shapeBad columns n r slab matrix hint secret error query ⌝ }
+    ensures { λ a. ⌜ a ≡ openShapeBad columns n r slab matrix hint secret error query ⌝ }
 {
-    if limits::out_of(1, 2048, n) {
+    if limits::out_of(1, limits::SECRET_MOST, n) {
         return true;
     }
-    if limits::out_of(1, 4096, r) {
+    if limits::out_of(1, limits::ROWS_MOST, r) {
         return true;
     }
     if matrix != n * r {
@@ -79,7 +58,7 @@ fn shape_bad(
     if hint != n * columns {
         return true;
     }
-    if slab != 64 * columns {
+    if slab != table::SLOTS * columns {
         return true;
     }
     if secret != n {
@@ -103,7 +82,7 @@ fn place_refusal(
     ensures { λ a. ⌜ openingTicket a ≡ after (openingNumber a) (table .next) 0 ⌝ }
     ensures { λ a. ⌜ openingRead a ≡ 0 ⌝ }
 {
-    if limits::out_of(1, 1431655765, interval as usize) {
+    if limits::out_of(1, limits::INTERVAL_MOST, interval as usize) {
         return Opening::Interval;
     }
     if places::positions_bad(r, positions) {
@@ -112,28 +91,28 @@ fn place_refusal(
     if table::digest_pending(table, digest) {
         return Opening::Pending;
     }
-    if table::slot_of(table, 0) == 64 {
+    if table::slot_of(table, 0) == table::SLOTS {
         return Opening::Full;
     }
-    if table.next == 4294967295 {
+    if table.next == table::NUMBERS_END {
         return Opening::Numbers;
     }
     Opening::Ticket(table.next, 0)
 }
 
 // 3: else the count of words that both samples read.
-fn words_for_both(interval: u32, n: usize, r: usize, words: &[u32]) -> Sampled
+fn words_for_both(interval: u32, n: usize, r: usize, words: &[u32]) -> Sampling
     requires { ⌜ (n ≤ 4096) × (r ≤ 4096) × (outside 1 1431655765 interval ≡ false) ⌝ }
-    ensures { λ a. ⌜ sampledNumber a ≡ first (eitherShort interval n r (now (words .entry)) ⇒ 3 ∷ []) ⌝ }
-    ensures { λ a. ⌜ sampledRead a ≡ after (sampledNumber a) (bothRead interval n r (now (words .entry))) 0 ⌝ }
+    ensures { λ a. ⌜ samplingNumber a ≡ first (eitherShort interval n r (now (words .entry)) ⇒ 3 ∷ []) ⌝ }
+    ensures { λ a. ⌜ samplingRead a ≡ after (samplingNumber a) (bothRead interval n r (now (words .entry))) 0 ⌝ }
 {
-    let Sampled::Read(s) = sampler::words_to_read(interval, n, words) else {
-        return Sampled::Short;
+    let Sampling::Read(s) = sampler::words_to_read(interval, n, words) else {
+        return Sampling::Short;
     };
-    let Sampled::Read(e) = sampler::words_to_read(interval, r, &words[s..]) else {
-        return Sampled::Short;
+    let Sampling::Read(e) = sampler::words_to_read(interval, r, &words[s..]) else {
+        return Sampling::Short;
     };
-    Sampled::Read(s + e)
+    Sampling::Read(s + e)
 }
 
 // Every refusal but 6, before anything is written; else the ticket and the count of words to read.
@@ -152,12 +131,12 @@ fn plan(
     error: usize,
     query: usize,
 ) -> Opening
-    ensures { λ a. ⌜ openingNumber a ≡ first (malformed table ⇒ 18 ∷ shapeBad (table .columns) n r slab matrix hint secret error query ⇒ 2 ∷ (placeTests table r interval positions digest ++ (eitherShort interval n r (now (words .entry)) ⇒ 3 ∷ []))) ⌝ }
+    ensures { λ a. ⌜ openingNumber a ≡ first (malformed table ⇒ 18 ∷ openShapeBad (table .columns) n r slab matrix hint secret error query ⇒ 2 ∷ (placeTests table r interval positions digest ++ (eitherShort interval n r (now (words .entry)) ⇒ 3 ∷ []))) ⌝ }
     ensures { λ a. ⌜ openingTicket a ≡ after (openingNumber a) (table .next) 0 ⌝ }
     ensures { λ a. ⌜ openingRead a ≡ after (openingNumber a) (bothRead interval n r (now (words .entry))) 0 ⌝ }
 {
     if table::is_malformed(table) {
-        return Opening::Malformed;
+        return Opening::Table;
     }
     if shape_bad(
         table.columns,
@@ -176,7 +155,7 @@ fn plan(
     let Opening::Ticket(ticket, _) = place else {
         return place;
     };
-    let Sampled::Read(read) = words_for_both(interval, n, r, words) else {
+    let Sampling::Read(read) = words_for_both(interval, n, r, words) else {
         return Opening::Short;
     };
     Opening::Ticket(ticket, read)
@@ -253,18 +232,6 @@ fn mark(b: u32, positions: [u32; 4], query: &mut [u32])
     }
 }
 
-// Writes `from` into the start of `out`.
-fn copy(from: &[u32], out: &mut [u32])
-    requires { ⌜ length (now from) ≤ length (now out) ⌝ }
-    ensures { λ _. ⌜ now (out .exit) ≡ laid (now (from .entry)) (now (out .entry)) ⌝ }
-{
-    let mut i: usize = 0;
-    while i < from.len() {
-        out[i] = from[i];
-        i += 1;
-    }
-}
-
 // s times hint into the words of this slot of the slab.
 fn put_secret(columns: usize, slot: usize, secret: &[u32], hint: &[u32], slab: &mut [u32])
     requires { ⌜ (1 ≤ length (now secret)) × (length (now secret) ≤ 2048) × (1 ≤ columns) × (columns ≤ 512) × (slot < 64) ⌝ }
@@ -307,7 +274,7 @@ fn store(
 {
     let slot = table::slot_of(table, 0);
     mark(table.b, positions, error);
-    copy(error, query);
+    lent::copy(error, query);
     put_secret(table.columns, slot, secret, hint, slab);
     lent::zero(secret);
     lent::zero(error);

@@ -1,9 +1,11 @@
 // Document 01, "Reply": a response to a pending ticket gives the stored value, or a numbered refusal.
-use arith::codec;
-use arith::codec::Decoded;
+use leaves::limits;
 use leaves::rounding;
+use leaves::words;
 use pending::table;
 use pending::table::Table;
+use rows::codec;
+use rows::codec::Decoding;
 ghost use mathlib.Core.Path.{_≡_};
 ghost use mathlib.Core.Bool.{true, false, not};
 ghost use mathlib.Core.List.{[], _∷_};
@@ -12,48 +14,34 @@ ghost use lib.ListN.{length};
 ghost use lib.Dec.{eqb};
 ghost use Rattle.laws.specs.Refusals.{_⇒_, first, after};
 ghost use Rattle.laws.specs.Lists.{row, laid};
-ghost use Rattle.arith.specs.Codec.{columnsBad, valueRoom, valueLength, valueOf, decodedNumber};
+ghost use Rattle.rows.specs.Codec.{columnsBad, valueRoom, valueLength, valueOf};
+ghost use Rattle.answers.specs.Codec.{decodingNumber};
 ghost use Rattle.pending.specs.Table.{used, malformed, pending};
-ghost use Rattle.client.specs.Reply.{received, lentBad, lessWord, recovered, rowNumber, replyNumber, closing, replyingNumber, replyingLength};
+ghost use Rattle.client.specs.Reply.{received, lentBad, lessWord, recovered, rowNumber, replyNumber, closing};
+ghost use Rattle.client_answers.specs.Reply.{replyingNumber, replyingLength};
 ghost use Rattle.client.specs.Reply.{replyLength, replySaid, replyOf, replySlab, replyValue};
+pub use client_answers::reply::Replying;
 
-// What a reply answers.
-pub enum Reply {
-    // 0: the value's length; the ticket is closed.
-    Value(usize),
-    // 18: the table is malformed.
-    Malformed,
-    // 2: the slab or the masks of a wrong length, or the value buffer too short.
-    Shape,
-    // 10: the ticket is not pending.
-    NotPending,
-    // 12: the response's length is not C.
-    Length,
-    // 17: an element of the row is 2^b or more.
-    Element,
-    // 13: the row has no marker where one must be; the ticket is closed.
-    Marker,
-    // 14: the digest differs in any byte; the ticket is closed.
-    Digest,
-}
+// The longest value of all: C 512 and b 14.
+const VALUE_MOST: usize = limits::COLUMNS_MOST * limits::WIDTH_MOST / 8 - codec::BESIDE_VALUE;
 
 pub struct Replied {
-    pub answer: Reply,
+    pub answer: Replying,
     pub table: Table,
 }
 
-// 2: the slab, the masks or the value buffer. A table that is not malformed has 33 whole bytes or more.
+// 2: the slab, the masks or the value buffer.
 fn lent_bad(table: Table, slab: usize, masks: usize, value: usize) -> bool
     requires { ⌜ (table .b ≤ 14) × (columnsBad (table .b) (table .columns) ≡ false) ⌝ }
     ensures { λ r. ⌜ r ≡ lentBad table slab masks value ⌝ }
 {
-    if slab != 64 * table.columns {
+    if slab != table::SLOTS * table.columns {
         return true;
     }
     if masks != table.columns {
         return true;
     }
-    value < table.columns * (table.b as usize) / 8 - 33
+    value < codec::value_room(table.b, table.columns)
 }
 
 // 18, 2, 10, 12: the refusals that need no row. Where none holds, a value of no length yet.
@@ -64,31 +52,23 @@ fn refusal(
     response: usize,
     masks: usize,
     value: usize,
-) -> Reply
+) -> Replying
     ensures { λ r. ⌜ replyingNumber r ≡ first (malformed table ⇒ 18 ∷ lentBad table slab masks value ⇒ 2 ∷ not (pending table ticket) ⇒ 10 ∷ not (eqb response (table .columns)) ⇒ 12 ∷ []) ⌝ }
     ensures { λ r. ⌜ replyingLength r ≡ 0 ⌝ }
 {
     if table::is_malformed(table) {
-        return Reply::Malformed;
+        return Replying::Table;
     }
     if lent_bad(table, slab, masks, value) {
-        return Reply::Shape;
+        return Replying::Shape;
     }
     if !table::is_pending(table, ticket) {
-        return Reply::NotPending;
+        return Replying::NotPending;
     }
     if response != table.columns {
-        return Reply::Length;
+        return Replying::Length;
     }
-    Reply::Value(0)
-}
-
-// x less y, modulo 2^32.
-fn less(x: u32, y: u32) -> u32
-    ensures { λ r. ⌜ r ≡ lessWord x y ⌝ }
-{
-    let wide = x as u64 + (4294967296 - y as u64);
-    (wide % 4294967296) as u32
+    Replying::Value(0)
 }
 
 // The row that a response gives with its query's secret.
@@ -97,41 +77,29 @@ fn recover(b: u32, secret: &[u32], response: &[u32], masks: &[u32], row: &mut [u
     requires { ⌜ (length (now secret) ≡ length (now row)) × (length (now masks) ≡ length (now row)) ⌝ }
     ensures { λ _. ⌜ now (row .exit) ≡ recovered b (now (secret .entry)) (now (response .entry)) (now (masks .entry)) ⌝ }
 {
-    let modulus: u32 = 1 << b;
+    let modulus = rounding::modulus(b);
     let mut j: usize = 0;
     while j < row.len() {
-        let element = rounding::rounded(b, less(response[j], secret[j]));
+        let element = rounding::rounded(b, std::num::wrapping_sub_u32(response[j], secret[j]));
         row[j] = (element + masks[j] % modulus) % modulus;
         j += 1;
     }
 }
 
 // What the row reader refuses, as a reply's answer. Its 1 and 2 can't come up.
-fn refused(decoded: Decoded) -> Reply
-    requires { ⌜ 2 < decodedNumber decoded ⌝ }
-    ensures { λ r. ⌜ replyingNumber r ≡ decodedNumber decoded ⌝ }
+fn refused(decoded: Decoding) -> Replying
+    requires { ⌜ 2 < decodingNumber decoded ⌝ }
+    ensures { λ r. ⌜ replyingNumber r ≡ decodingNumber decoded ⌝ }
     ensures { λ r. ⌜ replyingLength r ≡ 0 ⌝ }
 {
-    let Decoded::Marker = decoded else {
-        return Reply::Element;
+    let Decoding::Marker = decoded else {
+        return Replying::Element;
     };
-    Reply::Marker
-}
-
-// Writes `from` into the start of `out`.
-fn copy(from: &[u8], out: &mut [u8])
-    requires { ⌜ length (now from) ≤ length (now out) ⌝ }
-    ensures { λ _. ⌜ now (out .exit) ≡ laid (now (from .entry)) (now (out .entry)) ⌝ }
-{
-    let mut i: usize = 0;
-    while i < from.len() {
-        out[i] = from[i];
-        i += 1;
-    }
+    Replying::Marker
 }
 
 // 17, 13, 14: else the value. It is read aside first, so that a row of another digest leaves `value` untouched.
-fn read_row(table: Table, slot: usize, row: &[u32], value: &mut [u8]) -> Reply
+fn read_row(table: Table, slot: usize, row: &[u32], value: &mut [u8]) -> Replying
     requires { ⌜ (4 ≤ table .b) × (table .b ≤ 14) × (columnsBad (table .b) (table .columns) ≡ false) ⌝ }
     requires { ⌜ (used table slot ≡ true) × (length (now row) ≡ table .columns) × (valueRoom (table .b) (table .columns) ≤ length (now value)) ⌝ }
     ensures { λ r. ⌜ replyingNumber r ≡ rowNumber table slot (now (row .entry)) ⌝ }
@@ -139,16 +107,16 @@ fn read_row(table: Table, slot: usize, row: &[u32], value: &mut [u8]) -> Reply
     ensures { λ r. ⌜ now (value .exit) ≡ after (replyingNumber r) (laid (valueOf (table .b) (table .columns) (now (row .entry))) (now (value .entry))) (now (value .entry)) ⌝ }
 {
     let mut digest = [0u8; 32];
-    let mut found = [0u8; 863];
+    let mut found = [0u8; VALUE_MOST];
     let decoded = codec::decode_kv_from_row(table.b, table.columns, row, &mut digest, &mut found);
-    let Decoded::Value(n) = decoded else {
+    let Decoding::Value(n) = decoded else {
         return refused(decoded);
     };
     if table::differs_at(table, slot, digest) {
-        return Reply::Digest;
+        return Replying::Digest;
     }
-    copy(&found[..n], value);
-    Reply::Value(n)
+    words::copy_bytes(&found[..n], value);
+    Replying::Value(n)
 }
 
 // The value for the response to the ticket in this slot.
@@ -159,7 +127,7 @@ fn answer_for(
     response: &[u32],
     masks: &[u32],
     value: &mut [u8],
-) -> Reply
+) -> Replying
     requires { ⌜ (4 ≤ table .b) × (table .b ≤ 14) × (columnsBad (table .b) (table .columns) ≡ false) ⌝ }
     requires { ⌜ (slot < 64) × (used table slot ≡ true) × (length (now slab) ≡ 64 * table .columns) ⌝ }
     requires { ⌜ (length (now response) ≡ table .columns) × (length (now masks) ≡ table .columns) × (valueRoom (table .b) (table .columns) ≤ length (now value)) ⌝ }
@@ -171,7 +139,7 @@ fn answer_for(
     let columns = table.columns;
     let from = slot * columns;
     let to = from + columns;
-    let mut row = [0u32; 512];
+    let mut row = [0u32; limits::COLUMNS_MOST];
     recover(
         table.b,
         &slab[from..to],
@@ -190,7 +158,7 @@ fn read_response(
     response: &[u32],
     masks: &[u32],
     value: &mut [u8],
-) -> Reply
+) -> Replying
     ensures { λ r. ⌜ replyingNumber r ≡ replyNumber (received table (now (slab .entry)) ticket (now (response .entry)) (now (masks .entry)) (now (value .entry))) ⌝ }
     ensures { λ r. ⌜ replyingLength r ≡ replyLength (received table (now (slab .entry)) ticket (now (response .entry)) (now (masks .entry)) (now (value .entry))) ⌝ }
     ensures { λ _. ⌜ now (value .exit) ≡ replyValue (received table (now (slab .entry)) ticket (now (response .entry)) (now (masks .entry)) (now (value .entry))) ⌝ }
@@ -203,7 +171,7 @@ fn read_response(
         masks.len(),
         value.len(),
     );
-    let Reply::Value(_) = early else {
+    let Replying::Value(_) = early else {
         return early;
     };
     let slot = table::slot_of(table, ticket);
@@ -211,18 +179,18 @@ fn read_response(
 }
 
 // Does this answer close the ticket? Success, 13 and 14 do.
-fn closes(answer: Reply) -> bool
+fn closes(answer: Replying) -> bool
     ensures { λ r. ⌜ r ≡ closing (replyingNumber answer) ⌝ }
 {
     match answer {
-        Reply::Value(_) => true,
-        Reply::Malformed => false,
-        Reply::Shape => false,
-        Reply::NotPending => false,
-        Reply::Length => false,
-        Reply::Element => false,
-        Reply::Marker => true,
-        Reply::Digest => true,
+        Replying::Value(_) => true,
+        Replying::Table => false,
+        Replying::Shape => false,
+        Replying::NotPending => false,
+        Replying::Length => false,
+        Replying::Element => false,
+        Replying::Marker => true,
+        Replying::Digest => true,
     }
 }
 

@@ -21,20 +21,20 @@ use Rattle.leaves.specs.Rounding.{rounded}
 use Rattle.plain.specs.Matrix.{grid, times}
 use Rattle.plain.specs.Bytes.{allBytes, matrixBytes, wordAt}
 use Rattle.arith.specs.Sampler.{accepted, ternary, given, holdsEnough, shortest, tooFew}
-use Rattle.arith.specs.Codec.{columnsBad, encodeNumber, recordOf, rowOf, bytesOf, endOf, markerBad}
+use Rattle.rows.specs.Codec.{columnsBad, encodeNumber, recordOf, rowOf, bytesOf, lastNonzero, markerBad}
 use Rattle.builder.specs.Database.{less, database, keysBad, buildNumber}
 use Rattle.builder.specs.Placement.{seenBefore, keyBad, placementBad}
 use Rattle.pending.specs.Table.{alike, malformed, pending, digestPending, full, freshNumber}
-use Rattle.client.specs.Open.{shapeBad, bothRead, eitherShort, noisy, wraps, marked, errorOf, openNumber}
+use Rattle.client.specs.Open.{openShapeBad, bothRead, eitherShort, noisy, wraps, marked, errorOf, openNumber}
 use Rattle.client.specs.Reply.{lentBad, lessWord, recovered, replyNumber}
 use Rattle.client.specs.Discard.{discardNumber}
-use Rattle.frames.specs.Lines.{digit, hex, frame, digitValue, unhex, lineWords, digitsBad, lineBad, readNumber}
+use Rattle.frames.specs.Lines.{digit, hex, frame, digitValue, unhex, lineWords, digitsBad, lineBad, readLineNumber}
 use Rattle.runs.specs.Run.{asking, run}
 use Rattle.runs.specs.Said.{said}
 use Rattle.recovery.specs.Noise.{signed, sumℤ}
 use Rattle.recovery.specs.Store.{Calm}
 use Rattle.recovery.proofs.Demand.{demand}
-use Rattle.example.specs.Example.{value, masks, places, calls, ask, opening, lineOne, lineTwo, arriving, then, later}
+use Rattle.example.specs.Example.{value, masks, proposal, calls, ask, opening, lineOne, lineTwo, arriving, then, later}
 use Rattle.example.specs.Example.{store, allTold, column, loud, Shown}
 
 threes : (n i : ℕ) → getD (replicate n 3) i 0 < 256
@@ -48,17 +48,15 @@ five-six (suc zero) = lit< tt
 five-six (suc (suc i)) = lit< tt
 
 pub shown : Shown
-unfolding build join laid splice sum some lowest bitOf gathered carried anyAbove grid times among positionsBad accepted ternary given holdsEnough shortest tooFew allBytes matrixBytes wordAt columnsBad recordOf rowOf bytesOf endOf markerBad less database keysBad buildNumber seenBefore keyBad placementBad differs alike malformed pending digestPending full rounded shapeBad bothRead eitherShort noisy wraps marked openNumber lentBad lessWord recovered replyNumber discardNumber freshNumber digit hex frame digitValue unhex lineWords digitsBad lineBad readNumber run allTold encodeNumber signed sumℤ
+unfolding build join laid splice sum some lowest bitOf gathered carried anyAbove grid times among positionsBad accepted ternary given holdsEnough shortest tooFew allBytes matrixBytes wordAt columnsBad recordOf rowOf bytesOf lastNonzero markerBad less database keysBad buildNumber seenBefore keyBad placementBad differs alike malformed pending digestPending full rounded openShapeBad bothRead eitherShort noisy wraps marked openNumber lentBad lessWord recovered replyNumber discardNumber freshNumber digit hex frame digitValue unhex lineWords digitsBad lineBad readLineNumber run allTold encodeNumber signed sumℤ
 shown = record {
   told = refl;
   sound = record { width = refl; sizes = refl; whole = refl; fits = refl };
   key-placed = record {
-    count = 1;
-    rows = rowOf 14 20 (replicate 32 3) value;
-    allMasks = masks;
-    positions = places;
-    targets = 2 ∷ [];
-    held = replicate 100 0;
+    given = proposal;
+    same-b = refl;
+    same-r = refl;
+    same-columns = refl;
     built = refl;
     elements = refl;
     i = 0;

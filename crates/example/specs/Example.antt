@@ -8,8 +8,8 @@ use lib.ListN.{getD, replicate}
 use lib.Signed.{ltZ, leZ}
 use Rattle.laws.specs.Search.{some}
 use Rattle.plain.specs.Matrix.{cell}
-use Rattle.arith.specs.Codec.{rowOf}
-use Rattle.builder.specs.Database.{buildAfter}
+use Rattle.rows.specs.Codec.{rowOf}
+use Rattle.builder.specs.Database.{Proposed, buildAfter}
 use Rattle.client.specs.Open.{errorOf}
 use Rattle.runs.specs.Run.{Lent, State, Ask, Event, opens, comes, discards, asking, step, run, start}
 use Rattle.runs.specs.Said.{said}
@@ -27,6 +27,20 @@ masks = replicate 20 9
 abbrev pub places : List ℕ
 places = 0 ∷ 1 ∷ 2 ∷ 3 ∷ []
 
+-- the builder is lent this key alone
+abbrev pub proposal : Proposed
+proposal = record {
+  b = 14;
+  r = 5;
+  columns = 20;
+  count = 1;
+  rows = rowOf 14 20 (replicate 32 3) value;
+  masks = masks;
+  positions = places;
+  targets = 2 ∷ [];
+  held = replicate 100 0;
+}
+
 -- b 14, n 1, R 5, C 20
 abbrev pub store : Store
 store = record {
@@ -35,7 +49,7 @@ store = record {
   r = 5;
   columns = 20;
   matrix = 7 ∷ 4000000000 ∷ 3 ∷ 4 ∷ 5 ∷ [];
-  elements = buildAfter 14 5 20 1 (rowOf 14 20 (replicate 32 3) value) masks places (2 ∷ []) (replicate 100 0);
+  elements = buildAfter proposal;
 }
 
 abbrev pub calls : Lent

@@ -1,5 +1,5 @@
 // Document 01, "Lines": a frame as one line of lowercase hexadecimal. A terminal writes queries (kind 1) and reads responses
-// (kind 2), its host the other way round, so the kind is a parameter here; who calls fixes it.
+// (kind 2), its host the other way round, so the kind is a parameter here; `terminal` fixes it.
 use leaves::limits;
 use plain::bytes;
 ghost use mathlib.Core.Path.{_≡_};
@@ -9,29 +9,20 @@ ghost use Prim.Native.Nat.{_+_, _*_, _/_, _%_, _<_, _≤_};
 ghost use lib.ListN.{length, getD};
 ghost use Rattle.laws.specs.Lists.{laid};
 ghost use Rattle.plain.specs.Bytes.{wordBytes, allBytes, wordAt};
-ghost use Rattle.frames.specs.Lines.{digit, hex, frame, lineLength, writtenNumber, writtenLength, writeNumber, writeLength, writeAfter};
+ghost use Rattle.frames.specs.Lines.{digit, hex, frame, lineLength, writeLineNumber, writeLineLength, writeLineAfter};
+ghost use Rattle.answers.specs.Lines.{writingNumber, writingLength};
 ghost use Rattle.frames.specs.Lines.{digitValue, unhex, bodyOf, lineColumns, lineWords, digitsBad, lineBad};
-ghost use Rattle.frames.specs.Lines.{readNumberOf, readTicketOf, readColumnsOf, readNumber, readTicket, readColumns, readAfter};
+ghost use Rattle.frames.specs.Lines.{readLineNumber, readLineTicket, readLineColumns, readLineAfter};
+ghost use Rattle.answers.specs.Lines.{readingNumber, readingTicket, readingColumns};
+pub use answers::lines::Reading;
+pub use answers::lines::Writing;
 
-// What the line writer answers.
-pub enum LineWritten {
-    // 0: the line is written; its length, LF included.
-    Line(usize),
-    // 11: the ticket is 0.
-    NoTicket,
-    // 2: not 1 to 4,096 words, or the output too short.
-    Shape,
-}
-
-// What the line reader answers.
-pub enum LineRead {
-    // 0: the words are written; the ticket, and how many words.
-    Words(u32, usize),
-    // 11: not a whole line of this kind.
-    Malformed,
-    // 2: the output is too short.
-    Shape,
-}
+// The digits of a word.
+const WORD_DIGITS: usize = 8;
+// The digits of a frame before its words: kind, ticket, rows, columns.
+const HEAD_DIGITS: usize = 26;
+// The characters of a line without words, LF included.
+const LINE_LEAST: usize = 27;
 
 // The character of a digit.
 fn digit_of(d: u8) -> u8
@@ -45,7 +36,7 @@ fn digit_of(d: u8) -> u8
 }
 
 // A byte as its two digits, the high one first.
-fn put_byte(x: u8, part: &mut [u8])
+fn put_byte_digits(x: u8, part: &mut [u8])
     requires { ⌜ length (now part) ≡ 2 ⌝ }
     ensures { λ _. ⌜ now (part .exit) ≡ digit (x / 16) ∷ digit (x % 16) ∷ [] ⌝ }
 {
@@ -54,7 +45,7 @@ fn put_byte(x: u8, part: &mut [u8])
 }
 
 // Byte after byte.
-fn put_bytes(bytes: &[u8], part: &mut [u8])
+fn put_bytes_digits(bytes: &[u8], part: &mut [u8])
     requires { ⌜ length (now part) ≡ length (now bytes) * 2 ⌝ }
     ensures { λ _. ⌜ now (part .exit) ≡ hex (now (bytes .entry)) ⌝ }
 {
@@ -62,31 +53,31 @@ fn put_bytes(bytes: &[u8], part: &mut [u8])
     while i < bytes.len() {
         let to = i * 2;
         let to_end = to + 2;
-        put_byte(bytes[i], &mut part[to..to_end]);
+        put_byte_digits(bytes[i], &mut part[to..to_end]);
         i += 1;
     }
 }
 
 // A word as its eight digits.
-fn put_word(x: u32, part: &mut [u8])
+fn put_word_digits(x: u32, part: &mut [u8])
     requires { ⌜ length (now part) ≡ 8 ⌝ }
     ensures { λ _. ⌜ now (part .exit) ≡ hex (wordBytes x) ⌝ }
 {
     let mut four = [0u8; 4];
     bytes::put_word(x, &mut four);
-    put_bytes(&four, part);
+    put_bytes_digits(&four, part);
 }
 
 // Word after word.
-fn put_words(words: &[u32], part: &mut [u8])
+fn put_words_digits(words: &[u32], part: &mut [u8])
     requires { ⌜ length (now part) ≡ length (now words) * 8 ⌝ }
     ensures { λ _. ⌜ now (part .exit) ≡ hex (allBytes (now (words .entry))) ⌝ }
 {
     let mut q: usize = 0;
     while q < words.len() {
-        let to = q * 8;
-        let to_end = to + 8;
-        put_word(words[q], &mut part[to..to_end]);
+        let to = q * WORD_DIGITS;
+        let to_end = to + WORD_DIGITS;
+        put_word_digits(words[q], &mut part[to..to_end]);
         q += 1;
     }
 }
@@ -98,39 +89,39 @@ fn put_frame(kind: u8, ticket: u32, words: &[u32], out: &mut [u8])
 {
     let start: usize = 0;
     let head: usize = 2;
-    let body: usize = 26;
-    let end = body + 8 * words.len();
-    put_byte(kind, &mut out[start..head]);
-    put_words(&[ticket, 1, words.len() as u32], &mut out[head..body]);
-    put_words(words, &mut out[body..end]);
+    let body = HEAD_DIGITS;
+    let end = body + WORD_DIGITS * words.len();
+    put_byte_digits(kind, &mut out[start..head]);
+    put_words_digits(&[ticket, 1, words.len() as u32], &mut out[head..body]);
+    put_words_digits(words, &mut out[body..end]);
     out[end] = 10;
 }
 
 // 11, 2: the order that document 01 gives to a line writer; else the line's length.
-fn write_refusal(ticket: u32, words: usize, room: usize) -> LineWritten
-    ensures { λ r. ⌜ writtenNumber r ≡ writeNumber ticket words room ⌝ }
-    ensures { λ r. ⌜ writtenLength r ≡ writeLength ticket words room ⌝ }
+fn write_refusal(ticket: u32, count: usize, room: usize) -> Writing
+    ensures { λ r. ⌜ writingNumber r ≡ writeLineNumber ticket count room ⌝ }
+    ensures { λ r. ⌜ writingLength r ≡ writeLineLength ticket count room ⌝ }
 {
     if ticket == 0 {
-        return LineWritten::NoTicket;
+        return Writing::NoTicket;
     }
-    if limits::out_of(1, 4096, words) {
-        return LineWritten::Shape;
+    if limits::out_of(1, limits::ROWS_MOST, count) {
+        return Writing::Shape;
     }
-    if room < 27 + 8 * words {
-        return LineWritten::Shape;
+    if room < LINE_LEAST + WORD_DIGITS * count {
+        return Writing::Shape;
     }
-    LineWritten::Line(27 + 8 * words)
+    Writing::Line(LINE_LEAST + WORD_DIGITS * count)
 }
 
 // Writes a line of this kind into the start of `out`.
-pub fn write_line(kind: u8, ticket: u32, words: &[u32], out: &mut [u8]) -> LineWritten
-    ensures { λ r. ⌜ writtenNumber r ≡ writeNumber ticket (length (now (words .entry))) (length (now (out .entry))) ⌝ }
-    ensures { λ r. ⌜ writtenLength r ≡ writeLength ticket (length (now (words .entry))) (length (now (out .entry))) ⌝ }
-    ensures { λ _. ⌜ now (out .exit) ≡ writeAfter kind ticket (now (words .entry)) (now (out .entry)) ⌝ }
+pub fn write_line(kind: u8, ticket: u32, words: &[u32], out: &mut [u8]) -> Writing
+    ensures { λ r. ⌜ writingNumber r ≡ writeLineNumber ticket (length (now (words .entry))) (length (now (out .entry))) ⌝ }
+    ensures { λ r. ⌜ writingLength r ≡ writeLineLength ticket (length (now (words .entry))) (length (now (out .entry))) ⌝ }
+    ensures { λ _. ⌜ now (out .exit) ≡ writeLineAfter kind ticket (now (words .entry)) (now (out .entry)) ⌝ }
 {
     let answer = write_refusal(ticket, words.len(), out.len());
-    let LineWritten::Line(_) = answer else {
+    let Writing::Line(_) = answer else {
         return answer;
     };
     put_frame(kind, ticket, words, out);
@@ -193,7 +184,7 @@ fn word_from(line: &[u8], q: usize) -> u32
 fn line_bad(kind: u8, line: &[u8]) -> bool
     ensures { λ r. ⌜ r ≡ lineBad kind (now (line .entry)) ⌝ }
 {
-    if line.len() < 27 {
+    if line.len() < LINE_LEAST {
         return true;
     }
     if line[line.len() - 1] != 10 {
@@ -212,26 +203,26 @@ fn line_bad(kind: u8, line: &[u8]) -> bool
         return true;
     }
     let columns = word_from(line, 2) as usize;
-    if limits::out_of(1, 4096, columns) {
+    if limits::out_of(1, limits::ROWS_MOST, columns) {
         return true;
     }
-    line.len() != 27 + 8 * columns
+    line.len() != LINE_LEAST + WORD_DIGITS * columns
 }
 
 // 11, 2: the order that document 01 gives to a line reader; else ticket and count of words.
-fn read_refusal(kind: u8, line: &[u8], room: usize) -> LineRead
-    ensures { λ r. ⌜ readNumberOf r ≡ readNumber kind (now (line .entry)) room ⌝ }
-    ensures { λ r. ⌜ readTicketOf r ≡ readTicket kind (now (line .entry)) room ⌝ }
-    ensures { λ r. ⌜ readColumnsOf r ≡ readColumns kind (now (line .entry)) room ⌝ }
+fn read_refusal(kind: u8, line: &[u8], room: usize) -> Reading
+    ensures { λ r. ⌜ readingNumber r ≡ readLineNumber kind (now (line .entry)) room ⌝ }
+    ensures { λ r. ⌜ readingTicket r ≡ readLineTicket kind (now (line .entry)) room ⌝ }
+    ensures { λ r. ⌜ readingColumns r ≡ readLineColumns kind (now (line .entry)) room ⌝ }
 {
     if line_bad(kind, line) {
-        return LineRead::Malformed;
+        return Reading::Malformed;
     }
     let columns = word_from(line, 2) as usize;
     if room < columns {
-        return LineRead::Shape;
+        return Reading::Shape;
     }
-    LineRead::Words(word_from(line, 0), columns)
+    Reading::Words(word_from(line, 0), columns)
 }
 
 // The line's words: `out` has exactly that many.
@@ -248,14 +239,14 @@ fn read_words(line: &[u8], out: &mut [u32])
 }
 
 // Reads a line of this kind, its words into the start of `out`.
-pub fn read_line(kind: u8, line: &[u8], out: &mut [u32]) -> LineRead
-    ensures { λ r. ⌜ readNumberOf r ≡ readNumber kind (now (line .entry)) (length (now (out .entry))) ⌝ }
-    ensures { λ r. ⌜ readTicketOf r ≡ readTicket kind (now (line .entry)) (length (now (out .entry))) ⌝ }
-    ensures { λ r. ⌜ readColumnsOf r ≡ readColumns kind (now (line .entry)) (length (now (out .entry))) ⌝ }
-    ensures { λ _. ⌜ now (out .exit) ≡ readAfter kind (now (line .entry)) (now (out .entry)) ⌝ }
+pub fn read_line(kind: u8, line: &[u8], out: &mut [u32]) -> Reading
+    ensures { λ r. ⌜ readingNumber r ≡ readLineNumber kind (now (line .entry)) (length (now (out .entry))) ⌝ }
+    ensures { λ r. ⌜ readingTicket r ≡ readLineTicket kind (now (line .entry)) (length (now (out .entry))) ⌝ }
+    ensures { λ r. ⌜ readingColumns r ≡ readLineColumns kind (now (line .entry)) (length (now (out .entry))) ⌝ }
+    ensures { λ _. ⌜ now (out .exit) ≡ readLineAfter kind (now (line .entry)) (now (out .entry)) ⌝ }
 {
     let answer = read_refusal(kind, line, out.len());
-    let LineRead::Words(_, columns) = answer else {
+    let Reading::Words(_, columns) = answer else {
         return answer;
     };
     let start: usize = 0;

@@ -30,16 +30,16 @@ same-test a b c d p q =
       | no n ↦ ne-eqb a b n ∙ sym (ne-eqb c d (λ f. n (q f)))
     ]
 
--- no refusal: the first test does not hold, nor does a later one
-pub passed : (t : Bool) (n : ℕ) (ts : List Test) → first (t ⇒ suc n ∷ ts) ≡ 0 → (t ≡ false) × (first ts ≡ 0)
-passed true n ts e = absurd (omega arith)
-passed false n ts e = (refl, e)
-
 -- a refusal: the tests after the one that holds don't matter
 pub refused-before : (ts us : List Test) → 0 < first ts → first (ts ++ us) ≡ first ts
 refused-before [] us h = absurd (not-suc-le-zero h)
 refused-before ((true ⇒ n) ∷ ts) us h = refl
 refused-before ((false ⇒ n) ∷ ts) us h = refused-before ts us h
+
+-- no refusal: the first test does not hold, nor does a later one
+pub passed : (t : Bool) (n : ℕ) (ts : List Test) → first (t ⇒ suc n ∷ ts) ≡ 0 → (t ≡ false) × (first ts ≡ 0)
+passed true n ts e = absurd (omega arith)
+passed false n ts e = (refl, e)
 
 -- every test has a number, which is not 0; and no test holds
 abbrev pub Numbered : List Test → Type 0

@@ -1,4 +1,4 @@
--- Document 01: Δ, and a word rounded to the nearest multiple of it.
+-- Document 01: Δ, 2^b, and a word in multiples of Δ, rounded.
 use Prim.Native.Nat.{ℕ, _+_, _-_, _/_, _%_, _^_}
 use mathlib.Core.Bool.{cond}
 use lib.Dec.{ltb}
@@ -11,6 +11,10 @@ delta b = 2 ^ (32 - b)
 -- Δ where a u32 is that, and else 0
 unfoldable pub indicatorOf : ℕ → ℕ
 indicatorOf b = cond (outside 1 32 b) 0 (delta b)
+
+-- 2^b where a u32 is that, and else 0
+unfoldable pub modulusOf : ℕ → ℕ
+modulusOf b = cond (ltb b 32) (2 ^ b) 0
 
 -- the quotient u/Δ, one more exactly when the remainder exceeds Δ/2, then modulo 2^b
 unfoldable pub rounded : ℕ → ℕ → ℕ

@@ -3,6 +3,19 @@ ghost use mathlib.Core.Path.{_≡_};
 ghost use Rattle.laws.specs.Refusals.{outside, widthBad};
 ghost use Rattle.leaves.specs.Limits.{anyAbove};
 
+// b: the width of an element.
+pub const WIDTH_LEAST: usize = 4;
+
+pub const WIDTH_MOST: usize = 14;
+// R, and every dimension, count of wanted words or line that has no other bound.
+pub const ROWS_MOST: usize = 4096;
+// C, and the rows that packing takes.
+pub const COLUMNS_MOST: usize = 512;
+// n.
+pub const SECRET_MOST: usize = 2048;
+// I: three times the greatest is the greatest word.
+pub const INTERVAL_MOST: usize = 1431655765;
+
 // Is x none of lo, .., hi?
 pub fn out_of(lo: usize, hi: usize, x: usize) -> bool
     ensures { λ r. ⌜ r ≡ outside lo hi x ⌝ }
@@ -17,7 +30,7 @@ pub fn out_of(lo: usize, hi: usize, x: usize) -> bool
 pub fn width_bad(b: u32) -> bool
     ensures { λ r. ⌜ r ≡ widthBad b ⌝ }
 {
-    out_of(4, 14, b as usize)
+    out_of(WIDTH_LEAST, WIDTH_MOST, b as usize)
 }
 
 // 17: is one of the elements above the greatest that is allowed, which is 2^b - 1?

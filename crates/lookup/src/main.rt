@@ -45,6 +45,7 @@ fn wrong(t: Table, slab: &mut [u32]) -> Table {
 
 fn main() {
     store::show();
+    host::show();
     let made = table::fresh(10, 33);
     let mut slab = [0; 2112];
     let t = once(made.table, &mut slab);

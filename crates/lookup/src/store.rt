@@ -1,10 +1,10 @@
 // The store: b 10, n 3, R 7, C 33, and three members. Digests, masks, positions and order come from a filter, which stays
 // outside: here they are fixed, and every mask is 600. A row of 33 elements of 10 bits has room for a value of 8 bytes.
 use super::print;
-use arith::codec;
 use arith::packing;
 use builder::database;
 use plain::matrix;
+use rows::codec;
 
 // A member goes by a letter, which is also every byte of the digest.
 pub(crate) fn ada() -> u8 {

@@ -1,15 +1,15 @@
 // The terminal: opens tickets, sends query lines, and reads what comes back.
 use super::print;
 use super::store;
+use answers::lines::told_reading;
 use client::discard;
-use client::discard::Discarding;
 use client::lines;
-use client::lines::LineRead;
 use client::open;
-use client::open::Opening;
 use client::reply;
-use client::reply::Reply;
 use client::table::Table;
+use client_answers::discard::told_discarding;
+use client_answers::open::told_opening;
+use client_answers::reply::told_replying;
 
 // The words that the random device gives to the opens, n and R to each. They are fixed, so that the run can be held to a
 // file; none is used twice.
@@ -86,11 +86,33 @@ fn drawn(open: u32) -> [u32; 10] {
     for_cy()
 }
 
-fn refused(number: usize, meaning: &[u8]) {
+// What a number says to the person at the till.
+fn meaning(number: u32) {
+    match number {
+        2 => print::text(b"a length is wrong"),
+        3 => print::text(b"the random words end too soon"),
+        4 => print::text(b"the interval is outside its range"),
+        5 => print::text(b"the positions are bad"),
+        6 => print::text(b"an entry would wrap"),
+        7 => print::text(b"the digest is already pending"),
+        8 => print::text(b"no slot is free"),
+        9 => print::text(b"the ticket numbers are used up"),
+        10 => print::text(b"the ticket is not pending"),
+        11 => print::text(b"the line is malformed"),
+        12 => print::text(b"the response's length is wrong"),
+        13 => print::text(b"the row has no marker"),
+        14 => print::text(b"the digest is not the one asked for"),
+        17 => print::text(b"an element is too large"),
+        18 => print::text(b"the table is malformed"),
+        _ => print::text(b"a number that no call of a terminal gives"),
+    }
+}
+
+fn refused(number: u32) {
     print::text(b"  refused   ");
     print::number(number);
     print::text(b", ");
-    print::text(meaning);
+    meaning(number);
     print::text(b"\n");
 }
 
@@ -98,24 +120,18 @@ fn refused(number: usize, meaning: &[u8]) {
 fn send(ticket: u32, query: &[u32], line: &mut [u8]) {
     lines::write_query_line(ticket, query, line);
     print::text(b"  ticket    ");
-    print::number(ticket as usize);
+    print::number(ticket);
     print::text(b"\n  terminal  ");
     print::text(line);
 }
 
-fn asked(answer: Opening, query: &[u32], line: &mut [u8]) {
-    match answer {
-        Opening::Ticket(ticket, _) => send(ticket, query, line),
-        Opening::Malformed => refused(18, b"the table is malformed"),
-        Opening::Shape => refused(2, b"a length is wrong"),
-        Opening::Interval => refused(4, b"the interval is outside its range"),
-        Opening::Positions => refused(5, b"the positions are bad"),
-        Opening::Pending => refused(7, b"the digest is already pending"),
-        Opening::Full => refused(8, b"no slot is free"),
-        Opening::Numbers => refused(9, b"the ticket numbers are used up"),
-        Opening::Short => refused(3, b"the random words end too soon"),
-        Opening::Wraps(_) => refused(6, b"an entry would wrap"),
+// The query line, or why there is none.
+fn asked(number: u32, ticket: u32, query: &[u32], line: &mut [u8]) {
+    if number != 0 {
+        refused(number);
+        return;
     }
+    send(ticket, query, line);
 }
 
 // Opens a ticket for the row at one member's places under another's digest: the same member's, as a rule.
@@ -144,64 +160,53 @@ pub(crate) fn ask(
         &mut query,
     );
     let answer = opened.answer;
-    asked(answer, &query, line);
+    let told = told_opening(answer);
+    asked(told.number, told.ticket, &query, line);
     opened.table
 }
 
 pub(crate) fn drop(t: Table, slab: &mut [u32], ticket: u32) -> Table {
     let discarded = discard::discard_query(t, slab, ticket);
     let answer = discarded.answer;
-    match answer {
-        Discarding::Done => {
-            print::text(b"  discarded ");
-            print::number(ticket as usize);
-            print::text(b"\n");
-        }
-        Discarding::Malformed => refused(18, b"the table is malformed"),
-        Discarding::Shape => refused(2, b"a length is wrong"),
-        Discarding::NotPending => refused(10, b"the ticket is not pending"),
+    let number = told_discarding(answer);
+    if number == 0 {
+        print::text(b"  discarded ");
+        print::number(ticket);
+        print::text(b"\n");
+    } else {
+        refused(number);
     }
     discarded.table
 }
 
-fn replied(answer: Reply, value: &[u8]) {
-    match answer {
-        Reply::Value(n) => {
-            print::text(b"  value     ");
-            print::front(value, n);
-            print::text(b"\n");
-        }
-        Reply::Malformed => refused(18, b"the table is malformed"),
-        Reply::Shape => refused(2, b"a length is wrong"),
-        Reply::NotPending => refused(10, b"the ticket is not pending"),
-        Reply::Length => refused(12, b"the response's length is wrong"),
-        Reply::Element => refused(17, b"an element is too large"),
-        Reply::Marker => refused(13, b"the row has no marker"),
-        Reply::Digest => refused(14, b"the digest is not the one asked for"),
+// The value, or why there is none.
+fn show(number: u32, length: usize, value: &[u8]) {
+    if number != 0 {
+        refused(number);
+        return;
     }
+    print::text(b"  value     ");
+    print::front(value, length);
+    print::text(b"\n");
 }
 
 // A reply with what a line told.
 fn tell(t: Table, slab: &mut [u32], ticket: u32, words: &[u32]) -> Table {
     let mut value = [0; 8];
-    let told = reply::process_response(t, slab, ticket, words, &[600; 33], &mut value);
-    let answer = told.answer;
-    replied(answer, &value);
-    told.table
+    let replied = reply::process_response(t, slab, ticket, words, &[600; 33], &mut value);
+    let answer = replied.answer;
+    let told = told_replying(answer);
+    show(told.number, told.length, &value);
+    replied.table
 }
 
 // A line comes.
 pub(crate) fn come(t: Table, slab: &mut [u32], line: &[u8]) -> Table {
     let mut words = [0; 33];
-    match lines::read_response_line(line, &mut words) {
-        LineRead::Words(ticket, _) => tell(t, slab, ticket, &words),
-        LineRead::Malformed => {
-            refused(11, b"the line is malformed");
-            t
-        }
-        LineRead::Shape => {
-            refused(2, b"a length is wrong");
-            t
-        }
+    let told = told_reading(lines::read_response_line(line, &mut words));
+    if told.number != 0 {
+        refused(told.number);
+        return t;
     }
+    tell(t, slab, told.ticket, &words)
 }

@@ -1,14 +1,9 @@
 -- Two results that a contract allows for one input coincide: the answer, the table and the slab alike. It is said of the
 -- contracts themselves, and p and q are what their clauses say of the two results.
 use mathlib.Core.Path.{_≡_, refl, _∙⁻¹_}
-use mathlib.Core.Bool.{cond}
-use Prim.Native.Nat.{ℕ}
-use lib.Dec.{eqb}
 use Rattle.laws.specs.Contracts.{AllowsOne}
-use Rattle.laws.proofs.Contracts.{told-apart, _&_, skip}
-use Rattle.pending.specs.declared.table.Making.{Making}
-use Rattle.pending.specs.declared.table.Making.the-variants as making
-use Rattle.pending.specs.Table.{makingNumber}
+use Rattle.laws.proofs.Contracts.{_&_, skip}
+use Rattle.client_answers.proofs.Apart.{same-making}
 use Rattle.pending.proofs.table.fresh as fresh
 use Rattle.pending.proofs.table.is_malformed as is-malformed
 use Rattle.pending.proofs.table.slot_of as slot-of
@@ -18,18 +13,9 @@ use Rattle.pending.proofs.table.differs_at as differs-at
 use Rattle.pending.proofs.table.take as taking
 use Rattle.pending.proofs.table.close as closing
 
--- an answer of `fresh` can be made again from its number
-abbrev makingOf : ℕ → Making
-makingOf n = cond (eqb n 0) making.Done (cond (eqb n 1) making.Width making.Shape)
-
-making-back : (x : Making) → makingOf (makingNumber x) ≡ x
-making-back making.Done = refl
-making-back making.Width = refl
-making-back making.Shape = refl
-
 pub fresh-settled : AllowsOne fresh.Kinds.ps fresh.Kinds.r fresh.Reads.Post
 fresh-settled κs a x y v w p q =
-    let same : x .answer ≡ y .answer = told-apart makingNumber makingOf making-back (p .0 ∙⁻¹ q .0) in
+    let same : x .answer ≡ y .answer = same-making (p .0 ∙⁻¹ q .0) in
     (λ i. record { answer = same i; table = (p .1 ∙⁻¹ q .1) i }, refl)
 
 pub is-malformed-settled : AllowsOne is-malformed.Kinds.ps is-malformed.Kinds.r is-malformed.Reads.Post

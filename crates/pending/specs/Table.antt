@@ -10,10 +10,8 @@ use Rattle.laws.specs.Refusals.{_⇒_, first, after, outside, widthBad}
 use Rattle.laws.specs.Lists.{row, splice}
 use Rattle.laws.specs.Search.{some, lowest}
 use Rattle.leaves.specs.Digests.{differs}
-use Rattle.arith.specs.Codec.{columnsBad}
+use Rattle.rows.specs.Codec.{columnsBad}
 use Rattle.pending.specs.declared.table.Table.{Table}
-use Rattle.pending.specs.declared.table.Making.{Making}
-use Rattle.pending.specs.declared.table.Making.the-variants as making
 
 -- what the types of a table's arrays say, for laws about a table that no call has shown
 pub record Sized (t : Table) : Type 0 where
@@ -114,11 +112,6 @@ wipeAfter t slab ticket = cond (closable t (length slab) ticket) (wiped (t .colu
 abbrev pub freshTable : ℕ → ℕ → ℕ → Table
 freshTable b columns next =
     record { b = b; columns = columns; next = next; numbers = replicate 64 0; digests = replicate 2048 0 }
-
-abbrev pub makingNumber : Making → ℕ
-makingNumber making.Done = 0
-makingNumber making.Width = 1
-makingNumber making.Shape = 2
 
 -- what `fresh` answers, and the table then: next number 1; on a refusal all zero
 unfoldable pub freshNumber : ℕ → ℕ → ℕ

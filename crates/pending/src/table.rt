@@ -1,12 +1,12 @@
 // Document 01, "Pending table": 64 slots by value. Their secrets lie in a lent slab, which is not part of the table. To refuse
 // by a number is the caller's part: here a digest, ticket or slab for which there is nothing to do leaves all as it was.
-use arith::codec;
 use leaves::digests;
 use leaves::limits;
 use leaves::words;
+use rows::codec;
 ghost use mathlib.Core.Path.{_≡_};
 ghost use mathlib.Core.Bool.{not, _&&_};
-ghost use Prim.Native.Nat.{_+_, _*_, _<_, _≤_};
+ghost use Prim.Native.Nat.{_+_, _*_, _<_};
 ghost use lib.ListN.{length, replicate};
 ghost use lib.Dec.{leb};
 ghost use Rattle.laws.specs.Lists.{splice};
@@ -14,7 +14,18 @@ ghost use Rattle.laws.specs.Search.{some};
 ghost use Rattle.leaves.specs.Digests.{differs};
 ghost use Rattle.pending.specs.Table.{numberAt, digestAt, used, alike, malformed};
 ghost use Rattle.pending.specs.Table.{slotOf, pending, digestPending, differsAt, taken, takable, takeAfter, closed, wiped, closable, closeAfter, wipeAfter};
-ghost use Rattle.pending.specs.Table.{makingNumber, freshNumber, freshTable, freshAfter};
+ghost use Rattle.pending.specs.Table.{freshNumber, freshTable, freshAfter};
+ghost use Rattle.client_answers.specs.Table.{makingNumber};
+pub use client_answers::table::Making;
+
+// Slots, and the bytes of all their digests.
+pub const SLOTS: usize = 64;
+
+pub const DIGEST_BYTES: usize = 32 * SLOTS;
+// The next number that is refused by 9, and the last that a ticket may have.
+pub const NUMBERS_END: u32 = 4294967295;
+
+const LAST_NUMBER: usize = 4294967294;
 
 #[repr(C)]
 pub struct Table {
@@ -24,19 +35,9 @@ pub struct Table {
     // The number that the next ticket has.
     pub next: u32,
     // Slot s's ticket; 0 where it is free.
-    pub numbers: [u32; 64],
+    pub numbers: [u32; SLOTS],
     // Slot s's 32 bytes from 32·s on; zeros where it is free.
-    pub digests: [u8; 2048],
-}
-
-// What `fresh` answers.
-pub enum Making {
-    // 0: the table is as 01 says.
-    Done,
-    // 1: b is outside 4..=14.
-    Width,
-    // 2: C is outside 1..=512, or C·b below 264.
-    Shape,
+    pub digests: [u8; DIGEST_BYTES],
 }
 
 // On a refusal the table is all zero, which no entry accepts.
@@ -53,8 +54,8 @@ fn empty(b: u32, columns: usize, next: u32) -> Table
         b: b,
         columns: columns,
         next: next,
-        numbers: [0u32; 64],
-        digests: [0u8; 2048],
+        numbers: [0u32; SLOTS],
+        digests: [0u8; DIGEST_BYTES],
     }
 }
 
@@ -101,7 +102,7 @@ fn number_ahead(table: Table) -> bool
     ensures { λ r. ⌜ r ≡ some 64 (λ s. used table s && leb (table .next) (numberAt table s)) ⌝ }
 {
     let mut s: usize = 0;
-    while s < 64 {
+    while s < SLOTS {
         if table.numbers[s] != 0 && table.next <= table.numbers[s] {
             return true;
         }
@@ -147,7 +148,7 @@ fn any_alike(table: Table) -> bool
     ensures { λ r. ⌜ r ≡ some 64 (λ s. some s (λ q. alike table q s)) ⌝ }
 {
     let mut s: usize = 0;
-    while s < 64 {
+    while s < SLOTS {
         if alike_before(table, s) {
             return true;
         }
@@ -161,7 +162,7 @@ fn free_unclean(table: Table) -> bool
     ensures { λ r. ⌜ r ≡ some 64 (λ s. not (used table s) && differs (digestAt table s) (replicate 32 0)) ⌝ }
 {
     let mut s: usize = 0;
-    while s < 64 {
+    while s < SLOTS {
         if table.numbers[s] == 0 && digests::digest_differs(digest_of(table, s), [0u8; 32]) {
             return true;
         }
@@ -197,13 +198,13 @@ pub fn slot_of(table: Table, number: u32) -> usize
     ensures { λ s. ⌜ s ≡ slotOf table number ⌝ }
 {
     let mut slot: usize = 0;
-    while slot < 64 {
+    while slot < SLOTS {
         if table.numbers[slot] == number {
             return slot;
         }
         slot += 1;
     }
-    64
+    SLOTS
 }
 
 // 10, when not: is the ticket pending? 0 never is, since it is what a free slot has.
@@ -213,7 +214,7 @@ pub fn is_pending(table: Table, ticket: u32) -> bool
     if ticket == 0 {
         return false;
     }
-    slot_of(table, ticket) != 64
+    slot_of(table, ticket) != SLOTS
 }
 
 // 7: is the digest already pending?
@@ -221,7 +222,7 @@ pub fn digest_pending(table: Table, digest: [u8; 32]) -> bool
     ensures { λ r. ⌜ r ≡ digestPending table digest ⌝ }
 {
     let mut s: usize = 0;
-    while s < 64 {
+    while s < SLOTS {
         if table.numbers[s] != 0 && !digests::digest_differs(digest_of(table, s), digest) {
             return true;
         }
@@ -234,7 +235,7 @@ pub fn digest_pending(table: Table, digest: [u8; 32]) -> bool
 pub fn differs_at(table: Table, s: usize, digest: [u8; 32]) -> bool
     ensures { λ r. ⌜ r ≡ differsAt table s digest ⌝ }
 {
-    if 64 <= s {
+    if SLOTS <= s {
         return true;
     }
     if table.numbers[s] == 0 {
@@ -244,7 +245,7 @@ pub fn differs_at(table: Table, s: usize, digest: [u8; 32]) -> bool
 }
 
 // Stores a digest in slot s.
-fn put_digest(digests: &mut [u8; 2048], s: usize, digest: [u8; 32])
+fn put_digest(digests: &mut [u8; DIGEST_BYTES], s: usize, digest: [u8; 32])
     requires { ⌜ (s < 64) × (length (now digests) ≡ 2048) ⌝ }
     ensures { λ _. ⌜ now (digests .exit) ≡ splice (s * 32) digest (now (digests .entry)) ⌝ }
 {
@@ -276,10 +277,10 @@ fn can_take(table: Table, digest: [u8; 32]) -> bool
     if digest_pending(table, digest) {
         return false;
     }
-    if slot_of(table, 0) == 64 {
+    if slot_of(table, 0) == SLOTS {
         return false;
     }
-    !limits::out_of(1, 4294967294, table.next as usize)
+    !limits::out_of(1, LAST_NUMBER, table.next as usize)
 }
 
 // The table with the next number and this digest in its lowest free slot. Where 7, 8 or 9 holds it stays as it is.
@@ -314,10 +315,10 @@ fn can_close(table: Table, slab: usize, ticket: u32) -> bool
     if !is_pending(table, ticket) {
         return false;
     }
-    if slab % 64 != 0 {
+    if slab % SLOTS != 0 {
         return false;
     }
-    slab / 64 == table.columns
+    slab / SLOTS == table.columns
 }
 
 // Frees the slot of a pending ticket (the lowest, should two have its number), and wipes its digest and its secret words.

@@ -8,8 +8,6 @@ use Rattle.laws.specs.Refusals.{_⇒_, first, after, outside}
 use Rattle.laws.specs.Lists.{build, join, laid}
 use Rattle.laws.specs.Sums.{sum}
 use Rattle.plain.specs.Matrix.{matrixBad}
-use Rattle.plain.specs.declared.bytes.Parsed.{Parsed}
-use Rattle.plain.specs.declared.bytes.Parsed.the-variants.{Matrix, Malformed, Shape}
 
 -- the first n bytes of a number, lowest first, and the four of a word
 abbrev pub lowBytes : ℕ → ℕ → List ℕ
@@ -31,12 +29,12 @@ unfoldable pub wordAt : List ℕ → ℕ → ℕ
 wordAt bytes q = sum 4 (λ i. getD bytes (q * 4 + i) 0 * 256 ^ i)
 
 -- what the writer answers, given words and an output of these lengths, and what the output holds then
-unfoldable pub writeNumber : ℕ → ℕ → ℕ → ℕ → ℕ
-writeNumber rows columns lent room = first ((matrixBad rows columns lent || ltb room (8 + 4 * (rows * columns))) ⇒ 2 ∷ [])
+unfoldable pub toBytesNumber : ℕ → ℕ → ℕ → ℕ → ℕ
+toBytesNumber rows columns lent room = first ((matrixBad rows columns lent || ltb room (8 + 4 * (rows * columns))) ⇒ 2 ∷ [])
 
-abbrev pub writeAfter : ℕ → ℕ → List ℕ → List ℕ → List ℕ
-writeAfter rows columns words out =
-    after (writeNumber rows columns (length words) (length out)) (laid (matrixBytes rows columns words) out) out
+abbrev pub toBytesAfter : ℕ → ℕ → List ℕ → List ℕ → List ℕ
+toBytesAfter rows columns words out =
+    after (toBytesNumber rows columns (length words) (length out)) (laid (matrixBytes rows columns words) out) out
 
 -- the dimensions that the bytes name, and the words that follow
 abbrev pub rowsOf : List ℕ → ℕ
@@ -50,38 +48,22 @@ elementsOf bytes = build (rowsOf bytes * columnsOf bytes) (λ q. wordAt bytes (2
 
 -- 11: the length is not exactly what the dimensions give
 unfoldable pub lengthBad : List ℕ → Bool
-lengthBad bytes = ltb (length bytes) 8 || not (eqb (length bytes) (8 + 4 * (rowsOf bytes * columnsOf bytes)))
+lengthBad bytes = not (eqb (length bytes) (8 + 4 * (rowsOf bytes * columnsOf bytes)))
 
 -- 2: a dimension outside its limit, or an output too short
 unfoldable pub parsedBad : List ℕ → ℕ → Bool
 parsedBad bytes room =
     outside 1 4096 (rowsOf bytes) || outside 1 4096 (columnsOf bytes) || ltb room (rowsOf bytes * columnsOf bytes)
 
-abbrev pub parsedNumber : Parsed → ℕ
-parsedNumber (Matrix r c) = 0
-parsedNumber Malformed = 11
-parsedNumber Shape = 2
-
--- the dimensions that an answer gives; 0 on a refusal
-abbrev pub parsedRows : Parsed → ℕ
-parsedRows (Matrix r c) = r
-parsedRows Malformed = 0
-parsedRows Shape = 0
-
-abbrev pub parsedColumns : Parsed → ℕ
-parsedColumns (Matrix r c) = c
-parsedColumns Malformed = 0
-parsedColumns Shape = 0
-
 -- what the reader answers, given an output of this length, and what the output holds then
-unfoldable pub readNumber : List ℕ → ℕ → ℕ
-readNumber bytes room = first (lengthBad bytes ⇒ 11 ∷ parsedBad bytes room ⇒ 2 ∷ [])
+unfoldable pub fromBytesNumber : List ℕ → ℕ → ℕ
+fromBytesNumber bytes room = first (lengthBad bytes ⇒ 11 ∷ parsedBad bytes room ⇒ 2 ∷ [])
 
-abbrev pub readRows : List ℕ → ℕ → ℕ
-readRows bytes room = after (readNumber bytes room) (rowsOf bytes) 0
+abbrev pub fromBytesRows : List ℕ → ℕ → ℕ
+fromBytesRows bytes room = after (fromBytesNumber bytes room) (rowsOf bytes) 0
 
-abbrev pub readColumns : List ℕ → ℕ → ℕ
-readColumns bytes room = after (readNumber bytes room) (columnsOf bytes) 0
+abbrev pub fromBytesColumns : List ℕ → ℕ → ℕ
+fromBytesColumns bytes room = after (fromBytesNumber bytes room) (columnsOf bytes) 0
 
-abbrev pub readAfter : List ℕ → List ℕ → List ℕ
-readAfter bytes out = after (readNumber bytes (length out)) (laid (elementsOf bytes) out) out
+abbrev pub fromBytesAfter : List ℕ → List ℕ → List ℕ
+fromBytesAfter bytes out = after (fromBytesNumber bytes (length out)) (laid (elementsOf bytes) out) out

@@ -7,12 +7,10 @@ use lib.Dec.{ltb, eqb}
 use Rattle.laws.specs.Refusals.{_⇒_, first, after, outside}
 use Rattle.laws.specs.Lists.{build, join, laid}
 use Rattle.laws.specs.Sums.{sum}
-use Rattle.plain.specs.declared.matrix.Plain.{Plain}
-use Rattle.plain.specs.declared.matrix.Plain.the-variants.{Done, Shape}
 
 -- the word in row i and column j of a matrix of k columns
 abbrev pub cell : ℕ → List ℕ → ℕ → ℕ → ℕ
-cell k m i j = getD m (i * k + j) 0
+cell k x i j = getD x (i * k + j) 0
 
 -- a matrix of rows times columns words, made cell by cell
 unfoldable pub grid : ℕ → ℕ → (ℕ → ℕ → ℕ) → List ℕ
@@ -30,14 +28,10 @@ transposed r c x = grid c r (λ j i. cell c x i j)
 unfoldable pub matrixBad : ℕ → ℕ → ℕ → Bool
 matrixBad rows columns lent = outside 1 4096 rows || outside 1 4096 columns || not (eqb lent (rows * columns))
 
--- 01's number of an answer of the plain product, the transpose and the matrix-bytes writer
-abbrev pub plainNumber : Plain → ℕ
-plainNumber Done = 0
-plainNumber Shape = 2
-
 -- what the plain product answers, given factors and an output of these lengths, and what the output holds then
 unfoldable pub timesNumber : ℕ → ℕ → ℕ → ℕ → ℕ → ℕ → ℕ
-timesNumber r m c left right room = first ((matrixBad r m left || matrixBad m c right || ltb room (r * c)) ⇒ 2 ∷ [])
+timesNumber r m c lentLeft lentRight room =
+    first ((matrixBad r m lentLeft || matrixBad m c lentRight || ltb room (r * c)) ⇒ 2 ∷ [])
 
 abbrev pub timesAfter : ℕ → ℕ → ℕ → List ℕ → List ℕ → List ℕ → List ℕ
 timesAfter r m c left right out =

@@ -1,26 +1,20 @@
 // Document 01, "Matrix bytes": rows, columns and elements, each a u32 with its lowest byte first.
 use super::matrix;
-use super::matrix::Plain;
+use super::matrix::Fitting;
 ghost use mathlib.Core.Path.{_≡_};
 ghost use Prim.Native.Nat.{_+_, _*_, _≤_};
 ghost use mathlib.Core.Bool.{not, _||_};
 ghost use mathlib.Core.List.{[], _∷_};
 ghost use lib.ListN.{length};
 ghost use lib.Dec.{ltb, eqb};
+ghost use Rattle.laws.specs.Refusals.{first, after, _⇒_};
 ghost use Rattle.laws.specs.Lists.{build, laid};
-ghost use Rattle.plain.specs.Matrix.{matrixBad, plainNumber};
-ghost use Rattle.plain.specs.Bytes.{lowBytes, wordAt, allBytes, matrixBytes, writeNumber, writeAfter};
-ghost use Rattle.plain.specs.Bytes.{parsedNumber, parsedRows, parsedColumns, readNumber, readRows, readColumns, readAfter};
-
-// What the matrix-bytes reader answers.
-pub enum Parsed {
-    // 0: the words are written; rows and columns.
-    Matrix(usize, usize),
-    // 11: the length is not what the dimensions give.
-    Malformed,
-    // 2: a dimension is outside 1..=4096, or the output is too short.
-    Shape,
-}
+ghost use Rattle.plain.specs.Matrix.{matrixBad};
+ghost use Rattle.answers.specs.Matrix.{fittingNumber};
+ghost use Rattle.plain.specs.Bytes.{lowBytes, wordAt, allBytes, matrixBytes, toBytesNumber, toBytesAfter};
+ghost use Rattle.plain.specs.Bytes.{fromBytesNumber, fromBytesRows, fromBytesColumns, fromBytesAfter};
+ghost use Rattle.answers.specs.Bytes.{parsingNumber, parsingRows, parsingColumns};
+pub use answers::bytes::Parsing;
 
 // The bytes of a word, lowest first, as many as `part` has room for.
 pub fn put_word(x: u32, part: &mut [u8])
@@ -72,16 +66,16 @@ fn bytes_bad(rows: usize, columns: usize, lent: usize, room: usize) -> bool
 }
 
 // Writes a matrix as bytes into the start of `out`.
-pub fn to_bytes(rows: usize, columns: usize, words: &[u32], out: &mut [u8]) -> Plain
-    ensures { λ r. ⌜ plainNumber r ≡ writeNumber rows columns (length (now (words .entry))) (length (now (out .entry))) ⌝ }
-    ensures { λ _. ⌜ now (out .exit) ≡ writeAfter rows columns (now (words .entry)) (now (out .entry)) ⌝ }
+pub fn to_bytes(rows: usize, columns: usize, words: &[u32], out: &mut [u8]) -> Fitting
+    ensures { λ r. ⌜ fittingNumber r ≡ toBytesNumber rows columns (length (now (words .entry))) (length (now (out .entry))) ⌝ }
+    ensures { λ _. ⌜ now (out .exit) ≡ toBytesAfter rows columns (now (words .entry)) (now (out .entry)) ⌝ }
 {
     let answer = matrix::refusal(bytes_bad(rows, columns, words.len(), out.len()));
-    let Plain::Done = answer else {
+    let Fitting::Done = answer else {
         return answer;
     };
     put_matrix(rows, columns, words, out);
-    Plain::Done
+    Fitting::Done
 }
 
 // Four bytes as a word, lowest first.
@@ -112,26 +106,37 @@ fn body_bad(rows: u32, columns: u32, body: usize) -> bool
     body / 4 != rows as usize * columns as usize
 }
 
-// All refusals, before anything is written. A body that is not bad has as many words as the dimensions give, so that the
-// second test is of the dimensions and the room alone.
-fn plan(bytes: &[u8], room: usize) -> Parsed
-    ensures { λ r. ⌜ parsedNumber r ≡ readNumber (now (bytes .entry)) room ⌝ }
-    ensures { λ r. ⌜ parsedRows r ≡ readRows (now (bytes .entry)) room ⌝ }
-    ensures { λ r. ⌜ parsedColumns r ≡ readColumns (now (bytes .entry)) room ⌝ }
+// 11, then 2: the order that document 01 gives to the reader; else the dimensions.
+fn parsing(malformed: bool, shape: bool, rows: usize, columns: usize) -> Parsing
+    ensures { λ r. ⌜ parsingNumber r ≡ first (malformed ⇒ 11 ∷ shape ⇒ 2 ∷ []) ⌝ }
+    ensures { λ r. ⌜ parsingRows r ≡ after (first (malformed ⇒ 11 ∷ shape ⇒ 2 ∷ [])) rows 0 ⌝ }
+    ensures { λ r. ⌜ parsingColumns r ≡ after (first (malformed ⇒ 11 ∷ shape ⇒ 2 ∷ [])) columns 0 ⌝ }
+{
+    if malformed {
+        return Parsing::Malformed;
+    }
+    if shape {
+        return Parsing::Shape;
+    }
+    Parsing::Matrix(rows, columns)
+}
+
+// All refusals, before anything is written. Bytes too short for dimensions are malformed, whatever these would be. A body
+// that is not bad has as many words as the dimensions give, so that the second test is of the dimensions and the room alone.
+fn plan(bytes: &[u8], room: usize) -> Parsing
+    ensures { λ r. ⌜ parsingNumber r ≡ fromBytesNumber (now (bytes .entry)) room ⌝ }
+    ensures { λ r. ⌜ parsingRows r ≡ fromBytesRows (now (bytes .entry)) room ⌝ }
+    ensures { λ r. ⌜ parsingColumns r ≡ fromBytesColumns (now (bytes .entry)) room ⌝ }
 {
     if bytes.len() < 8 {
-        return Parsed::Malformed;
+        return parsing(true, false, 0, 0);
     }
     let rows = word_at(bytes, 0);
     let columns = word_at(bytes, 1);
     let body = bytes.len() - 8;
-    if body_bad(rows, columns, body) {
-        return Parsed::Malformed;
-    }
-    if matrix::lent_bad(rows as usize, columns as usize, body / 4, room) {
-        return Parsed::Shape;
-    }
-    Parsed::Matrix(rows as usize, columns as usize)
+    let malformed = body_bad(rows, columns, body);
+    let shape = matrix::lent_bad(rows as usize, columns as usize, body / 4, room);
+    parsing(malformed, shape, rows as usize, columns as usize)
 }
 
 // Words from the third on, as many as `out` has room for.
@@ -147,14 +152,14 @@ fn read_words(bytes: &[u8], out: &mut [u32])
 }
 
 // Reads a matrix from its bytes, its words into the start of `out`.
-pub fn from_bytes(bytes: &[u8], out: &mut [u32]) -> Parsed
-    ensures { λ r. ⌜ parsedNumber r ≡ readNumber (now (bytes .entry)) (length (now (out .entry))) ⌝ }
-    ensures { λ r. ⌜ parsedRows r ≡ readRows (now (bytes .entry)) (length (now (out .entry))) ⌝ }
-    ensures { λ r. ⌜ parsedColumns r ≡ readColumns (now (bytes .entry)) (length (now (out .entry))) ⌝ }
-    ensures { λ _. ⌜ now (out .exit) ≡ readAfter (now (bytes .entry)) (now (out .entry)) ⌝ }
+pub fn from_bytes(bytes: &[u8], out: &mut [u32]) -> Parsing
+    ensures { λ r. ⌜ parsingNumber r ≡ fromBytesNumber (now (bytes .entry)) (length (now (out .entry))) ⌝ }
+    ensures { λ r. ⌜ parsingRows r ≡ fromBytesRows (now (bytes .entry)) (length (now (out .entry))) ⌝ }
+    ensures { λ r. ⌜ parsingColumns r ≡ fromBytesColumns (now (bytes .entry)) (length (now (out .entry))) ⌝ }
+    ensures { λ _. ⌜ now (out .exit) ≡ fromBytesAfter (now (bytes .entry)) (now (out .entry)) ⌝ }
 {
     let answer = plan(bytes, out.len());
-    let Parsed::Matrix(rows, columns) = answer else {
+    let Parsing::Matrix(rows, columns) = answer else {
         return answer;
     };
     let start: usize = 0;

@@ -10,34 +10,28 @@ ghost use lib.Dec.{ltb};
 ghost use Rattle.laws.specs.Refusals.{first, _⇒_};
 ghost use Rattle.laws.specs.Lists.{build, laid};
 ghost use Rattle.laws.specs.Sums.{sum};
-ghost use Rattle.plain.specs.Matrix.{cell, matrixBad, times, transposed, plainNumber, timesNumber, timesAfter, transposeNumber, transposeAfter};
+ghost use Rattle.plain.specs.Matrix.{cell, matrixBad, times, transposed, timesNumber, timesAfter, transposeNumber, transposeAfter};
+ghost use Rattle.answers.specs.Matrix.{fittingNumber};
+pub use answers::matrix::Fitting;
 
-// What the plain product, the transpose and the matrix-bytes writer answer.
-pub enum Plain {
-    // 0: the output is written.
-    Done,
-    // 2: a dimension is outside 1..=4096, a lent length is wrong, or the output is too short.
-    Shape,
-}
-
-// 2, the one refusal of all three.
-pub(crate) fn refusal(shape: bool) -> Plain
-    ensures { λ r. ⌜ plainNumber r ≡ first (shape ⇒ 2 ∷ []) ⌝ }
+// 2, the one refusal of product, transpose and matrix-bytes writer.
+pub(crate) fn refusal(shape: bool) -> Fitting
+    ensures { λ r. ⌜ fittingNumber r ≡ first (shape ⇒ 2 ∷ []) ⌝ }
 {
     if shape {
-        return Plain::Shape;
+        return Fitting::Shape;
     }
-    Plain::Done
+    Fitting::Done
 }
 
 // 2: a matrix with each dimension 1 to 4,096, lent as so many words.
 pub(crate) fn matrix_bad(rows: usize, columns: usize, lent: usize) -> bool
     ensures { λ r. ⌜ r ≡ matrixBad rows columns lent ⌝ }
 {
-    if limits::out_of(1, 4096, rows) {
+    if limits::out_of(1, limits::ROWS_MOST, rows) {
         return true;
     }
-    if limits::out_of(1, 4096, columns) {
+    if limits::out_of(1, limits::ROWS_MOST, columns) {
         return true;
     }
     lent != rows * columns
@@ -108,16 +102,16 @@ pub fn plain_product(
     left: &[u32],
     right: &[u32],
     out: &mut [u32],
-) -> Plain
-    ensures { λ a. ⌜ plainNumber a ≡ timesNumber r m c (length (now (left .entry))) (length (now (right .entry))) (length (now (out .entry))) ⌝ }
+) -> Fitting
+    ensures { λ a. ⌜ fittingNumber a ≡ timesNumber r m c (length (now (left .entry))) (length (now (right .entry))) (length (now (out .entry))) ⌝ }
     ensures { λ _. ⌜ now (out .exit) ≡ timesAfter r m c (now (left .entry)) (now (right .entry)) (now (out .entry)) ⌝ }
 {
     let answer = refusal(factors_bad(r, m, c, left.len(), right.len(), out.len()));
-    let Plain::Done = answer else {
+    let Fitting::Done = answer else {
         return answer;
     };
     rows_times(r, m, c, left, right, out);
-    Plain::Done
+    Fitting::Done
 }
 
 // Column j of a matrix of c columns.
@@ -157,14 +151,14 @@ pub(crate) fn lent_bad(r: usize, c: usize, lent: usize, room: usize) -> bool
 }
 
 // A matrix of r times c words, its rows made columns, into the start of `out`.
-pub fn transpose(r: usize, c: usize, words: &[u32], out: &mut [u32]) -> Plain
-    ensures { λ a. ⌜ plainNumber a ≡ transposeNumber r c (length (now (words .entry))) (length (now (out .entry))) ⌝ }
+pub fn transpose(r: usize, c: usize, words: &[u32], out: &mut [u32]) -> Fitting
+    ensures { λ a. ⌜ fittingNumber a ≡ transposeNumber r c (length (now (words .entry))) (length (now (out .entry))) ⌝ }
     ensures { λ _. ⌜ now (out .exit) ≡ transposeAfter r c (now (words .entry)) (now (out .entry)) ⌝ }
 {
     let answer = refusal(lent_bad(r, c, words.len(), out.len()));
-    let Plain::Done = answer else {
+    let Fitting::Done = answer else {
         return answer;
     };
     columns_as_rows(r, c, words, out);
-    Plain::Done
+    Fitting::Done
 }

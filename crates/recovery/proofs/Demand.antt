@@ -11,11 +11,11 @@ use Rattle.laws.specs.Lists.{row, laid}
 use Rattle.laws.specs.Refusals.{after}
 use Rattle.laws.proofs.Refusals.{written}
 use Rattle.plain.proofs.matrix.Cells.{length-product}
-use Rattle.arith.specs.Codec.{rowOf, valueLength, valueOf}
+use Rattle.rows.specs.Codec.{rowOf, valueLength, valueOf}
 use Rattle.pending.specs.Table.{pending, slotOf, digestAt, freshNumber}
 use Rattle.client.specs.Open.{Asked, errorOf, storedSecret, secretOf, noisy, marked}
 use Rattle.client.specs.Reply.{slotFor, rowFor, rowNumber, replyNumber}
-use Rattle.frames.specs.Lines.{lineLength, lineTicket, readNumber, readTicket, writeNumber, writeLength, writeAfter}
+use Rattle.frames.specs.Lines.{lineLength, lineTicket, readLineNumber, readLineTicket, writeLineNumber, writeLineLength, writeLineAfter}
 use Rattle.client.proofs.open.Answers.{Ready, succeeded}
 use Rattle.runs.specs.Run.{Lent, State, Ask, Event, opens, comes, asking, telling, readFrom, Brings, step, start}
 use Rattle.runs.specs.Said.{said, Refused}
@@ -90,9 +90,9 @@ module _ (st : Store) (sound : Sound st) where
         (omega (arith, long, ready .shape .r-least)) (omega (arith, long, ready .shape .r-most))
 
     sent : (buffer : List ℕ) → lineLength (st .r) ≤ length buffer
-        → (writeNumber (ticketOf st s a) (length (queryOf st s a)) (length buffer) ≡ 0)
-        × (take (writeLength (ticketOf st s a) (length (queryOf st s a)) (length buffer))
-        (writeAfter 1 (ticketOf st s a) (queryOf st s a) buffer)
+        → (writeLineNumber (ticketOf st s a) (length (queryOf st s a)) (length buffer) ≡ 0)
+        × (take (writeLineLength (ticketOf st s a) (length (queryOf st s a)) (length buffer))
+        (writeLineAfter 1 (ticketOf st s a) (queryOf st s a) buffer)
         ≡ queryLine st s a)
     sent buffer room =
         line-sent (ticketOf st s a) (queryOf st s a) some small word
@@ -105,7 +105,7 @@ module _ (st : Store) (sound : Sound st) where
 
     module _ (out masks value : List ℕ) where
       abbrev number : ℕ
-      number = readNumber 2 (lineOf st s a) (length out)
+      number = readLineNumber 2 (lineOf st s a) (length out)
 
       late : pending (u .table) (ticketOf st s a) ≡ false
           → Refused calls u (comes (lineOf st s a) out masks value) value
@@ -114,7 +114,7 @@ module _ (st : Store) (sound : Sound st) where
         elim (decLt 0 number) [
           | yes h ↦ unread calls u (lineOf st s a) out masks value h
           | no g ↦ let taken : number ≡ 0 = omega arith in
-              let named : readTicket 2 (lineOf st s a) (length out) ≡ ticketOf st s a =
+              let named : readLineTicket 2 (lineOf st s a) (length out) ≡ ticketOf st s a =
               sym (written number (lineTicket (lineOf st s a)) 0 taken) ∙ ticket in
               gone-refused u (readFrom (lineOf st s a) out masks value) (ap (pending (u .table)) named ∙ none) calls
               (comes (lineOf st s a) out masks value) (taken, refl)
@@ -195,8 +195,7 @@ module _ (st : Store) (sound : Sound st) where
             found =
                 honest-row
                 ∙ ap₂ (wanted st) (k .its-positions) (k .its-masks)
-                ∙ placed st (k .count) (k .rows) (k .allMasks) (k .positions) (k .targets) (k .held) (k .built) (k .elements) (k .i)
-                (k .below)
+                ∙ placed st (k .given) (k .same-b) (k .same-r) (k .same-columns) (k .built) (k .elements) (k .i) (k .below)
                 ∙ k .its-row
 
             gives : Gives (u .table) (slotOf (u .table) (ticketOf st s a)) (rowOf (st .b) (st .columns) (a .digest) v) v

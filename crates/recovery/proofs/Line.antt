@@ -11,8 +11,8 @@ use Rattle.laws.proofs.Below.{each-below}
 use Rattle.laws.proofs.Filling.{take-laid}
 use Rattle.laws.proofs.Refusals.{neither, inside, within, written}
 use Rattle.plain.proofs.matrix.Cells.{length-product}
-use Rattle.arith.specs.Codec.{columnsBad}
-use Rattle.frames.specs.Lines.{frame, lineLength, lineTicket, writeNumber, writeLength, writeAfter}
+use Rattle.rows.specs.Codec.{columnsBad}
+use Rattle.frames.specs.Lines.{frame, lineLength, lineTicket, writeLineNumber, writeLineLength, writeLineAfter}
 use Rattle.frames.proofs.lines.Answers.{whole}
 use Rattle.frames.proofs.lines.RoundTrip.{read-back}
 use Rattle.runs.specs.Run.{comes, Brings}
@@ -43,15 +43,15 @@ module _ (t : ℕ) (q : List ℕ) (some : 0 < t) (fits : t < 2 ^ 32) (words : (i
       let back = read-back 1 t q (omega arith) some fits words least most in
       whole 1 (frame 1 t q) (back .0) .long ∙ ap lineLength (sym (length-words (frame 1 t q)) ∙ ap length (back .2))
 
-  taken : (buffer : List ℕ) → lineLength (length q) ≤ length buffer → writeNumber t (length q) (length buffer) ≡ 0
-  unfolding writeNumber
+  taken : (buffer : List ℕ) → lineLength (length q) ≤ length buffer → writeLineNumber t (length q) (length buffer) ≡ 0
+  unfolding writeLineNumber
   taken buffer room =
       simp (ne-eqb t 0 (λ e. omega arith), within 1 4096 (length q) least most, le-ltb (length buffer) (lineLength (length q)) room)
 
   -- is what the writer leaves at the start of a buffer that has room for it
   pub line-sent : (buffer : List ℕ) → lineLength (length q) ≤ length buffer
-      → (writeNumber t (length q) (length buffer) ≡ 0)
-      × (take (writeLength t (length q) (length buffer)) (writeAfter 1 t q buffer) ≡ frame 1 t q)
+      → (writeLineNumber t (length q) (length buffer) ≡ 0)
+      × (take (writeLineLength t (length q) (length buffer)) (writeLineAfter 1 t q buffer) ≡ frame 1 t q)
   line-sent buffer room =
       let done = taken buffer room in (
         done,

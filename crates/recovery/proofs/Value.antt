@@ -16,13 +16,12 @@ use Rattle.laws.proofs.Lists.{build-ext, build-getD, length-row}
 use Rattle.laws.proofs.Filling.{take-laid}
 use Rattle.laws.proofs.Refusals.{written}
 use Rattle.laws.proofs.Search.{some-false}
-use Rattle.arith.specs.Codec.{valueRoom, rowOf, encodeNumber, valueLength, valueOf}
+use Rattle.rows.specs.Codec.{valueRoom, rowOf, encodeNumber, valueLength, valueOf}
 use Rattle.plain.specs.Matrix.{cell}
-use Rattle.arith.proofs.codec.Answers.{taken, accepted}
-use Rattle.arith.proofs.codec.RoundTrip.{ReadBack, read-back}
+use Rattle.rows.proofs.codec.Answers.{taken, accepted}
+use Rattle.rows.proofs.codec.RoundTrip.{ReadBack, read-back}
 use Rattle.plain.proofs.matrix.Cells.{row-cell}
-use Rattle.builder.specs.Keys.{Keys, lentKeys}
-use Rattle.builder.specs.Database.{rowsSum, database, buildNumber, buildAfter}
+use Rattle.builder.specs.Database.{rowsSum, database, Proposed, keysOf, buildNumber, buildAfter}
 use Rattle.builder.proofs.database.Answers as builder
 use Rattle.builder.proofs.database.Law.{length-database, key-row}
 use Rattle.builder.proofs.database.Success.{built-row}
@@ -79,44 +78,47 @@ module _ (b columns room : ℕ) (digest v : List ℕ)
           value-is = rw (b-is, columns-is) (read .value-back);
         }
 
--- A store over what the builder made.
-module _ (st : Store) (count : ℕ) (rows masks positions targets held : List ℕ)
-    (built : buildNumber (st .b) (st .r) (st .columns) count rows masks positions targets (length held) ≡ 0)
-    (stored : st .elements ≡ take (st .r * st .columns) (buildAfter (st .b) (st .r) (st .columns) count rows masks positions targets held)) where
-  abbrev keys : Keys
-  keys = lentKeys (st .columns) rows masks positions targets
-
+-- what the builder made, and its elements without what lies behind the database
+module _ (p : Proposed) (built : buildNumber p ≡ 0) where
   abbrev made : List ℕ
-  made = database (st .b) (st .r) (st .columns) keys count
+  made = take (p .r * p .columns) (buildAfter p)
 
-  given : builder.Accepted (st .b) (st .r) (st .columns) count rows masks positions targets (length held)
-  given = builder.accepted (st .b) (st .r) (st .columns) count rows masks positions targets (length held) built
+  good : builder.Accepted p
+  good = builder.accepted p built
 
-  -- its elements are the database, without what lies behind it
-  stored-is : st .elements ≡ made
-  stored-is =
-      stored
-      ∙ ap (take (st .r * st .columns)) (sym (written _ (laid made held) held built))
-      ∙ take-laid made held (st .r * st .columns) (length-database (st .b) (st .r) (st .columns) keys count (given .placement))
+  made-is : made ≡ database (p .b) (p .r) (p .columns) (keysOf p) (p .count)
+  made-is =
+      let d = database (p .b) (p .r) (p .columns) (keysOf p) (p .count) in
+      ap (take (p .r * p .columns)) (sym (written _ (laid d (p .held)) (p .held) built))
+      ∙ take-laid d (p .held) (p .r * p .columns)
+      (length-database (p .b) (p .r) (p .columns) (keysOf p) (p .count) (good .placement))
 
-  module _ (i : ℕ) (h : i < count) where
+  module _ (i : ℕ) (h : i < p .count) where
     -- word j, which is a remainder modulo 2^b
-    word : (j : ℕ) → j < st .columns
-        → (rowsSum (st .columns) (st .elements) (row 4 positions i) j + getD (row (st .columns) masks i) j 0) % 2 ^ st .b
-        ≡ getD (row (st .columns) rows i) j 0
+    word : (j : ℕ) → j < p .columns
+        → (rowsSum (p .columns) made (row 4 (p .positions) i) j + getD (row (p .columns) (p .masks) i) j 0) % 2 ^ p .b
+        ≡ getD (row (p .columns) (p .rows) i) j 0
     word j l =
-        let c = st .columns in
-        let small : cell c rows i j < 2 ^ st .b =
-        rw (← built-row (st .b) (st .r) c count rows masks positions targets held built i h j l) (mod-lt _ (pow-pos (st .b))) in
-        ap₂ (λ (d : List ℕ) (m : ℕ). (rowsSum c d (row 4 positions i) j + m) % 2 ^ st .b) stored-is (row-cell c masks i j l)
-        ∙ key-row (st .b) (st .r) c keys count (given .placement) i h j l small
-        ∙ sym (row-cell c rows i j l)
+        let c = p .columns in
+        let small : cell c (p .rows) i j < 2 ^ p .b = rw (← built-row p built i h j l) (mod-lt _ (pow-pos (p .b))) in
+        ap₂ (λ (d : List ℕ) (m : ℕ). (rowsSum c d (row 4 (p .positions) i) j + m) % 2 ^ p .b) made-is (row-cell c (p .masks) i j l)
+        ∙ key-row (p .b) (p .r) c (keysOf p) (p .count) (good .placement) i h j l small
+        ∙ sym (row-cell c (p .rows) i j l)
 
     -- the key's row, whatever it carries
-    pub placed : wanted st (row 4 positions i) (row (st .columns) masks i) ≡ row (st .columns) rows i
-    placed =
-        let found = row (st .columns) rows i in
-        let long = length-row (st .columns) count i rows (omega (arith, given .shape .rows-whole)) h in
-        build-ext (st .columns) _ (λ j. getD found j 0) word
+    row-back : build (p .columns)
+        (λ j. (rowsSum (p .columns) made (row 4 (p .positions) i) j + getD (row (p .columns) (p .masks) i) j 0) % 2 ^ p .b)
+        ≡ row (p .columns) (p .rows) i
+    row-back =
+        let found = row (p .columns) (p .rows) i in
+        let long = length-row (p .columns) (p .count) i (p .rows) (omega (arith, good .shape .rows-whole)) h in
+        build-ext (p .columns) _ (λ j. getD found j 0) word
         ∙ ap (λ (n : ℕ). build n (λ j. getD found j 0)) (sym long)
         ∙ build-getD found 0
+
+-- a store of the same b, R and C over it
+pub placed : (st : Store) (p : Proposed) → p .b ≡ st .b → p .r ≡ st .r → p .columns ≡ st .columns → buildNumber p ≡ 0
+    → st .elements ≡ take (st .r * st .columns) (buildAfter p) → (i : ℕ) → i < p .count
+    → wanted st (row 4 (p .positions) i) (row (st .columns) (p .masks) i) ≡ row (st .columns) (p .rows) i
+placed st p b-is r-is columns-is built stored i h =
+    rw (stored, ← b-is, ← r-is, ← columns-is) (row-back p built i h)

@@ -6,12 +6,12 @@ use mathlib.Core.List.{List}
 use lib.ListN.{length, getD, take}
 use Rattle.laws.specs.Lists.{row, laid}
 use Rattle.laws.specs.Refusals.{after}
-use Rattle.arith.specs.Codec.{valueRoom, rowOf, encodeNumber, valueLength, valueOf}
-use Rattle.builder.specs.Database.{buildNumber, buildAfter}
+use Rattle.rows.specs.Codec.{valueRoom, rowOf, encodeNumber, valueLength, valueOf}
+use Rattle.builder.specs.Database.{Proposed, buildNumber, buildAfter}
 use Rattle.pending.specs.Table.{malformed, pending, slotOf, digestAt}
 use Rattle.client.specs.Open.{errorOf, storedSecret}
 use Rattle.client.specs.Reply.{rowFor, rowNumber}
-use Rattle.frames.specs.Lines.{frame, lineLength, writeNumber, writeLength, writeAfter}
+use Rattle.frames.specs.Lines.{frame, lineLength, writeLineNumber, writeLineLength, writeLineAfter}
 use Rattle.runs.specs.Run.{State, Ask, Tell, Event, opens, comes, asking, telling, Brings, step, run, start, Fits, Typed}
 use Rattle.runs.specs.Said.{said, Refused}
 use Rattle.runs.specs.Groups.{Grouped, touched}
@@ -66,21 +66,18 @@ Roomy st masks value = (length masks ≡ st .columns) × (valueRoom (st .b) (st 
 -- "a key placed by the builder with our row writer's row, both at this b and C, queried with its own positions, digest and
 -- masks": key i of those that the builder was given, whose stored bytes are v
 pub record Placed (st : Store) (a : Ask) (masks v : List ℕ) : Type 0 where
-  pub count : ℕ
-  pub rows : List ℕ
-  pub allMasks : List ℕ
-  pub positions : List ℕ
-  pub targets : List ℕ
-  pub held : List ℕ
-  pub built : buildNumber (st .b) (st .r) (st .columns) count rows allMasks positions targets (length held) ≡ 0
-  pub elements : st .elements
-      ≡ take (st .r * st .columns) (buildAfter (st .b) (st .r) (st .columns) count rows allMasks positions targets held)
+  pub given : Proposed
+  pub same-b : given .b ≡ st .b
+  pub same-r : given .r ≡ st .r
+  pub same-columns : given .columns ≡ st .columns
+  pub built : buildNumber given ≡ 0
+  pub elements : st .elements ≡ take (st .r * st .columns) (buildAfter given)
   pub i : ℕ
-  pub below : i < count
+  pub below : i < given .count
   pub written : encodeNumber (st .b) (st .columns) (length v) (st .columns) ≡ 0
-  pub its-row : row (st .columns) rows i ≡ rowOf (st .b) (st .columns) (a .digest) v
-  pub its-positions : a .positions ≡ row 4 positions i
-  pub its-masks : masks ≡ row (st .columns) allMasks i
+  pub its-row : row (st .columns) (given .rows) i ≡ rowOf (st .b) (st .columns) (a .digest) v
+  pub its-positions : a .positions ≡ row 4 (given .positions) i
+  pub its-masks : masks ≡ row (st .columns) (given .masks) i
   pub digest-bytes : (k : ℕ) → getD (a .digest) k 0 < 256
   pub value-bytes : (k : ℕ) → getD v k 0 < 256
 
@@ -104,9 +101,9 @@ pub record Demand (st : Store) : Type 0 where
   pub ternary : (s : State) (a : Ask) (i : ℕ) → Ternary (getD (errorOf (asking (callsOf st) s a)) i 0)
   -- the query line that the server has is what the line writer leaves of the ticket and the words that the open was answered
   pub sent : (s u : State) (a : Ask) → Since st s a u → (buffer : List ℕ) → lineLength (st .r) ≤ length buffer
-      → (writeNumber (ticketOf st s a) (length (queryOf st s a)) (length buffer) ≡ 0)
-      × (take (writeLength (ticketOf st s a) (length (queryOf st s a)) (length buffer))
-      (writeAfter 1 (ticketOf st s a) (queryOf st s a) buffer)
+      → (writeLineNumber (ticketOf st s a) (length (queryOf st s a)) (length buffer) ≡ 0)
+      × (take (writeLineLength (ticketOf st s a) (length (queryOf st s a)) (length buffer))
+      (writeLineAfter 1 (ticketOf st s a) (queryOf st s a) buffer)
       ≡ queryLine st s a)
   -- The honest server's line comes, and there is room for its words: it is read as its ticket and its words, whenever that is.
   -- Where the ticket is no longer pending, it is refused and changes nothing, room or not.
@@ -131,7 +128,9 @@ pub record Demand (st : Store) : Type 0 where
   -- its buffer, whose rest stays
   pub answers : (s u : State) (a : Ask) → Waiting st s a u → Calm st (errorOf (asking (callsOf st) s a))
       → (masks value v : List ℕ) → Roomy st masks value → Placed st a masks v → (e : Event) → Brings e (honest st s a masks value)
-      → (said (callsOf st) u e .number ≡ 0) × (said (callsOf st) u e .length ≡ length v) × (said (callsOf st) u e .value ≡ laid v value)
+      → (said (callsOf st) u e .number ≡ 0)
+      × (said (callsOf st) u e .length ≡ length v)
+      × (said (callsOf st) u e .value ≡ laid v value)
   -- and in one sentence: the host's line comes, and the terminal has the key's bytes
   pub delivers : (s u : State) (a : Ask) → Waiting st s a u → Calm st (errorOf (asking (callsOf st) s a))
       → (out masks value v : List ℕ) → st .columns ≤ length out → Roomy st masks value → Placed st a masks v

@@ -7,7 +7,7 @@ use mathlib.Core.List.{List}
 use lib.ListN.{length, getD}
 use Rattle.laws.specs.Lists.{build}
 use Rattle.laws.specs.Refusals.{widthBad}
-use Rattle.arith.specs.Codec.{columnsBad}
+use Rattle.rows.specs.Codec.{columnsBad}
 use Rattle.leaves.specs.Limits.{elementsBad}
 use Rattle.plain.specs.Matrix.{times, cell}
 use Rattle.builder.specs.Database.{rowsSum}

@@ -12,7 +12,7 @@ use Rattle.laws.proofs.Filling.{take-laid}
 use Rattle.laws.proofs.Lists.{length-build}
 use Rattle.laws.proofs.Refusals.{kept, written}
 use Rattle.client.specs.Reply.{replyNumber, replyOf, replyValue}
-use Rattle.frames.specs.Lines.{frame, lineTicket, lineColumns, lineWords, lineBad, readNumber}
+use Rattle.frames.specs.Lines.{frame, lineTicket, lineColumns, lineWords, lineBad, readLineNumber}
 use Rattle.frames.proofs.lines.RoundTrip.{read-back}
 use Rattle.runs.specs.Run.{Lent, State, Tell, Event, opens, replies, comes, discards, telling, readFrom, Brings, replied, step}
 use Rattle.runs.specs.Said.{said, Refused}
@@ -58,8 +58,8 @@ module _ (t : ℕ) (words out : List ℕ) (some : 0 < t) (small : t < 2 ^ 32) (e
   count : lineColumns line ≡ length words
   count = sym (length-words line) ∙ ap length (back .2)
 
-  success : readNumber 2 line (length out) ≡ 0
-  unfolding readNumber
+  success : readLineNumber 2 line (length out) ≡ 0
+  unfolding readLineNumber
   success = simp (back .0, le-ltb (length out) (lineColumns line) (omega (arith, count)))
 
   module _ (masks value : List ℕ) where
@@ -83,7 +83,7 @@ module _ (t : ℕ) (words out : List ℕ) (some : 0 < t) (small : t < 2 ^ 32) (e
     )
 
 -- a line that the reader refuses brings none, and changes nothing
-pub unread : (l : Lent) (s : State) (line out masks value : List ℕ) → 0 < readNumber 2 line (length out)
+pub unread : (l : Lent) (s : State) (line out masks value : List ℕ) → 0 < readLineNumber 2 line (length out)
     → Refused l s (comes line out masks value) value
 unread l s line out masks value h = record {
   number = rw (← kept _ (replyNumber (telling s (readFrom line out masks value))) _ h) h;

@@ -10,7 +10,7 @@ use lib.ListN.{length}
 use borrow.Author.Tests.{eq-eqb}
 use Rattle.laws.specs.Refusals.{Test, _⇒_, first}
 use Rattle.laws.proofs.Refusals.{not-answered, kept}
-use Rattle.arith.specs.Codec.{valueRoom}
+use Rattle.rows.specs.Codec.{valueRoom}
 use Rattle.pending.specs.Table.{malformed, pending}
 use Rattle.client.specs.Reply.{lentBad, slotFor, rowFor, rowTests, replyNumber, closing}
 use Rattle.client.proofs.reply.Answers.{none-early, waiting}

@@ -11,7 +11,7 @@ use Rattle.laws.proofs.Lists.{room}
 use Rattle.laws.proofs.Refusals.{written}
 use Rattle.laws.proofs.Splice.{length-splice}
 use Rattle.plain.proofs.matrix.Cells.{length-product}
-use Rattle.arith.specs.Codec.{valueRoom}
+use Rattle.rows.specs.Codec.{valueRoom}
 use Rattle.pending.specs.Table.{Sized, malformed, slotOf, freshTable, freshNumber}
 use Rattle.client.specs.Open.{Asked, secretOf, storedSecret}
 use Rattle.client.specs.Reply.{lentBad}

@@ -13,7 +13,7 @@ use Rattle.pending.specs.Table.{pending, slotOf, taken, closed, wiped}
 use Rattle.client.specs.Open.{openNumber, storedSecret}
 use Rattle.client.specs.Reply.{Received, replyNumber, closing}
 use Rattle.client.specs.Discard.{discardNumber}
-use Rattle.frames.specs.Lines.{lineBad, lineColumns, readNumber}
+use Rattle.frames.specs.Lines.{lineBad, lineColumns, readLineNumber}
 use Rattle.client.proofs.open.Answers.{Ready, succeeded}
 use Rattle.client.proofs.reply.Answers.{none-early, waiting}
 use Rattle.client.proofs.discard.Answers.{Accepted, accepted}
@@ -59,9 +59,9 @@ splits zero = refl
 splits (suc n) = rw (eqb·suc-zero n) (omega arith)
 
 -- no number of the line reader's answers a ticket or closes it
-reader-closes-none : (line : List ℕ) (room : ℕ) → 0 < readNumber 2 line room
-    → (answering (readNumber 2 line room) ≡ false) × (failing (readNumber 2 line room) ≡ false)
-unfolding readNumber
+reader-closes-none : (line : List ℕ) (room : ℕ) → 0 < readLineNumber 2 line room
+    → (answering (readLineNumber 2 line room) ≡ false) × (failing (readLineNumber 2 line room) ≡ false)
+unfolding readLineNumber
 reader-closes-none line room = by-tests (lineBad 2 line) (ltb room (lineColumns line))
   where
     by-tests : (bad short : Bool) → 0 < first (bad ⇒ 11 ∷ short ⇒ 2 ∷ [])
@@ -115,7 +115,7 @@ module _ (l : Lent) (s : State) where
       by-number zero ready = takes a whole (ready refl)
       by-number (suc n) ready = still
   does (replies a) fits = told a
-  does (comes line out masks value) fits = by-number (readNumber 2 line (length out)) (reader-closes-none line (length out))
+  does (comes line out masks value) fits = by-number (readLineNumber 2 line (length out)) (reader-closes-none line (length out))
     where
       a : Tell
       a = readFrom line out masks value

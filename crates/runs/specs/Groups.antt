@@ -11,7 +11,7 @@ use Rattle.pending.specs.Table.{pending, slotOf}
 use Rattle.client.specs.Open.{openNumber}
 use Rattle.client.specs.Reply.{slotFor, replyNumber, closing}
 use Rattle.client.specs.Discard.{discardNumber}
-use Rattle.frames.specs.Lines.{readNumber}
+use Rattle.frames.specs.Lines.{readLineNumber}
 use Rattle.runs.specs.Said.{said}
 use Rattle.runs.specs.Run.{Lent, State, Tell, Event, opens, replies, comes, discards, asking, telling, readFrom, step, run}
 
@@ -77,6 +77,6 @@ abbrev pub touched : Lent → State → Event → ℕ → Bool
 touched l s (opens a) q = after (openNumber (asking l s a)) (eqb q (slotOf (s .table) 0)) false
 touched l s (replies a) q = shutOn s a q
 touched l s (comes line out masks value) q =
-    after (readNumber 2 line (length out)) (shutOn s (readFrom line out masks value) q) false
+    after (readLineNumber 2 line (length out)) (shutOn s (readFrom line out masks value) q) false
 touched l s (discards ticket) q =
     after (discardNumber (s .table) (length (s .slab)) ticket) (eqb q (slotOf (s .table) ticket)) false

@@ -10,7 +10,7 @@ use Rattle.pending.specs.Table.{freshAfter}
 use Rattle.client.specs.Open.{Asked, asked, openOf, openLeft}
 use Rattle.client.specs.Reply.{Received, received, replyOf, replySlab}
 use Rattle.client.specs.Discard.{discardTable, discardSlab}
-use Rattle.frames.specs.Lines.{readNumber, readTicket, readColumns, readAfter}
+use Rattle.frames.specs.Lines.{readLineNumber, readLineTicket, readLineColumns, readLineAfter}
 
 -- what every call of a run is lent alike: n and R, the public matrix A, and a hint, which may be any
 pub record Lent : Type 0 where
@@ -61,8 +61,8 @@ telling s a = received (s .table) (s .slab) (a .ticket) (a .response) (a .masks)
 -- what a response line tells, where the reader takes it
 abbrev pub readFrom : (line out masks value : List ℕ) → Tell
 readFrom line out masks value = record {
-  ticket = readTicket 2 line (length out);
-  response = take (readColumns 2 line (length out)) (readAfter 2 line out);
+  ticket = readLineTicket 2 line (length out);
+  response = take (readLineColumns 2 line (length out)) (readLineAfter 2 line out);
   masks = masks;
   value = value;
 }
@@ -71,7 +71,7 @@ readFrom line out masks value = record {
 abbrev pub Brings : Event → Tell → Type 0
 Brings (opens a) x = ⊥
 Brings (replies a) x = a ≡ x
-Brings (comes line out masks value) x = (readNumber 2 line (length out) ≡ 0) × (readFrom line out masks value ≡ x)
+Brings (comes line out masks value) x = (readLineNumber 2 line (length out) ≡ 0) × (readFrom line out masks value ≡ x)
 Brings (discards ticket) x = ⊥
 
 -- the state after a reply, and after an event: a line that the reader refuses changes nothing
@@ -81,7 +81,7 @@ replied s a = record { table = replyOf (telling s a) .table; slab = replySlab (t
 abbrev pub step : Lent → State → Event → State
 step l s (opens a) = record { table = openOf (asking l s a) .table; slab = openLeft (asking l s a) .slab }
 step l s (replies a) = replied s a
-step l s (comes line out masks value) = after (readNumber 2 line (length out)) (replied s (readFrom line out masks value)) s
+step l s (comes line out masks value) = after (readLineNumber 2 line (length out)) (replied s (readFrom line out masks value)) s
 step l s (discards ticket) =
     record { table = discardTable (s .table) (s .slab) ticket; slab = discardSlab (s .table) (s .slab) ticket }
 

@@ -8,7 +8,7 @@ use Rattle.laws.specs.Refusals.{after}
 use Rattle.client.specs.Open.{openOf, openLeft}
 use Rattle.client.specs.Reply.{replyOf, replyValue}
 use Rattle.client.specs.Discard.{discardNumber}
-use Rattle.frames.specs.Lines.{readNumber, readTicket, readColumns, readAfter}
+use Rattle.frames.specs.Lines.{readLineNumber, readLineTicket, readLineColumns, readLineAfter}
 use Rattle.runs.specs.Run.{Lent, State, Event, opens, replies, comes, discards, asking, telling, readFrom, step}
 
 pub record Said : Type 0 where
@@ -66,16 +66,16 @@ said l s (replies a) = record {
 }
 -- the reader's number where it refuses the line, and then nothing is replied to
 said l s (comes line out masks value) = record {
-  number = after (readNumber 2 line (length out)) (replyOf (telling s (readFrom line out masks value)) .number)
-      (readNumber 2 line (length out));
-  ticket = readTicket 2 line (length out);
-  count = readColumns 2 line (length out);
-  length = after (readNumber 2 line (length out)) (replyOf (telling s (readFrom line out masks value)) .length) 0;
+  number = after (readLineNumber 2 line (length out)) (replyOf (telling s (readFrom line out masks value)) .number)
+      (readLineNumber 2 line (length out));
+  ticket = readLineTicket 2 line (length out);
+  count = readLineColumns 2 line (length out);
+  length = after (readLineNumber 2 line (length out)) (replyOf (telling s (readFrom line out masks value)) .length) 0;
   secret = [];
   error = [];
   query = [];
-  out = readAfter 2 line out;
-  value = after (readNumber 2 line (length out)) (replyValue (telling s (readFrom line out masks value))) value;
+  out = readLineAfter 2 line out;
+  value = after (readLineNumber 2 line (length out)) (replyValue (telling s (readFrom line out masks value))) value;
 }
 said l s (discards ticket) = plainly (discardNumber (s .table) (length (s .slab)) ticket)
 

@@ -4,7 +4,7 @@ use mathlib.Core.Path.{refl, _∙⁻¹_}
 use base.Logic.{id⊢}
 use Rattle.laws.specs.Contracts.{AllowsOne, WalkAllowsOne}
 use Rattle.laws.proofs.Contracts.{_&_, skip, from-facts, both-facts}
-use Rattle.arith.proofs.Settled.{packed-one}
+use Rattle.answers.proofs.Apart.{same-packing}
 use Rattle.view.proofs.packed.view
 use Rattle.view.proofs.packed.multiply
 use Rattle.view.proofs.packed.times
@@ -15,12 +15,12 @@ view-settled M 𝓤 H A mem run κs a g x y v w = from-facts 𝓤 (id⊢ 𝓤 _)
 
 pub multiply-settled : (M : Type 1) → WalkAllowsOne M multiply.ended multiply.clauses
 multiply-settled M 𝓤 H A mem run κs a g x y v w = from-facts 𝓤 (both-facts 𝓤) (both-facts 𝓤)
-    (λ p q. (packed-one (p .0 ∙⁻¹ q .0), skip 2 (p .1 ∙⁻¹ q .1 & refl)))
+    (λ p q. (same-packing (p .0 ∙⁻¹ q .0), skip 2 (p .1 ∙⁻¹ q .1 & refl)))
 
 pub times-settled : AllowsOne times.Kinds.ps times.Kinds.r times.Reads.Post
 times-settled κs a x y v w p q =
-    (packed-one (p .0 ∙⁻¹ q .0), skip 5 (p .1 ∙⁻¹ q .1 & refl))
+    (same-packing (p .0 ∙⁻¹ q .0), skip 5 (p .1 ∙⁻¹ q .1 & refl))
 
 pub unpack-settled : (M : Type 1) → WalkAllowsOne M unpack.ended unpack.clauses
 unpack-settled M 𝓤 H A mem run κs a g x y v w = from-facts 𝓤 (both-facts 𝓤) (both-facts 𝓤)
-    (λ p q. (packed-one (p .0 ∙⁻¹ q .0), skip 1 (p .1 ∙⁻¹ q .1 & refl)))
+    (λ p q. (same-packing (p .0 ∙⁻¹ q .0), skip 1 (p .1 ∙⁻¹ q .1 & refl)))

@@ -1,13 +1,14 @@
 // Document 01: "The packed matrix goes about as one view: its words, rows, columns and b." Columns are the unpacked ones.
 // The work and every refusal are `arith`'s, on plain parameters. Each function here is a walk of its code by hand.
 use arith::packing;
-use arith::packing::Packed;
+use arith::packing::Packing;
 use arith::product;
 ghost use mathlib.Core.Path.{_≡_};
 ghost use lib.ListN.{length};
-ghost use Rattle.arith.specs.Packing.{packedNumber, decompressNumber, decompressAfter};
-ghost use Rattle.arith.specs.Product.{productNumber, productAfter};
-ghost use Rattle.view.specs.Packed.{viewed};
+ghost use Rattle.arith.specs.Packing.{decompressNumber, decompressAfter};
+ghost use Rattle.answers.specs.Packing.{packingNumber};
+ghost use Rattle.arith.specs.Product.{factors, productNumber, productAfter};
+ghost use Rattle.view.specs.Packed.{viewed, factorsWith};
 
 pub struct PackedMatrix<'a> {
     pub words: &'a [u32],
@@ -29,9 +30,9 @@ pub fn view<'a>(b: u32, rows: usize, columns: usize, words: &'a [u32]) -> Packed
 }
 
 // The product: the view taken apart.
-pub fn multiply<'a>(vector: &[u32], matrix: PackedMatrix<'a>, out: &mut [u32]) -> Packed
-    ensures { λ r. ⌜ packedNumber r ≡ productNumber (matrix .entry .b) (matrix .entry .rows) (matrix .entry .columns) (length (now (vector .entry))) (length (now (matrix .entry .words))) (length (now (out .entry))) ⌝ }
-    ensures { λ _. ⌜ now (out .exit) ≡ productAfter (matrix .entry .b) (matrix .entry .rows) (matrix .entry .columns) (now (vector .entry)) (now (matrix .entry .words)) (now (out .entry)) ⌝ }
+pub fn multiply<'a>(vector: &[u32], matrix: PackedMatrix<'a>, out: &mut [u32]) -> Packing
+    ensures { λ r. ⌜ packingNumber r ≡ productNumber (factorsWith (now (vector .entry)) (matrix .entry) (now (out .entry))) ⌝ }
+    ensures { λ _. ⌜ now (out .exit) ≡ productAfter (factorsWith (now (vector .entry)) (matrix .entry) (now (out .entry))) ⌝ }
 {
     product::row_vector_x_compressed_transposed_matrix(
         matrix.b,
@@ -51,17 +52,17 @@ pub fn times(
     columns: usize,
     words: &[u32],
     out: &mut [u32],
-) -> Packed
-    ensures { λ r. ⌜ packedNumber r ≡ productNumber b rows columns (length (now (vector .entry))) (length (now (words .entry))) (length (now (out .entry))) ⌝ }
-    ensures { λ _. ⌜ now (out .exit) ≡ productAfter b rows columns (now (vector .entry)) (now (words .entry)) (now (out .entry)) ⌝ }
+) -> Packing
+    ensures { λ r. ⌜ packingNumber r ≡ productNumber (factors b rows columns (now (vector .entry)) (now (words .entry)) (now (out .entry))) ⌝ }
+    ensures { λ _. ⌜ now (out .exit) ≡ productAfter (factors b rows columns (now (vector .entry)) (now (words .entry)) (now (out .entry))) ⌝ }
 {
     let matrix = view(b, rows, columns, words);
     multiply(vector, matrix, out)
 }
 
 // The unpacked elements, row after row.
-pub fn unpack<'a>(matrix: PackedMatrix<'a>, out: &mut [u32]) -> Packed
-    ensures { λ r. ⌜ packedNumber r ≡ decompressNumber (matrix .entry .b) (matrix .entry .rows) (matrix .entry .columns) (length (now (matrix .entry .words))) (length (now (out .entry))) ⌝ }
+pub fn unpack<'a>(matrix: PackedMatrix<'a>, out: &mut [u32]) -> Packing
+    ensures { λ r. ⌜ packingNumber r ≡ decompressNumber (matrix .entry .b) (matrix .entry .rows) (matrix .entry .columns) (length (now (matrix .entry .words))) (length (now (out .entry))) ⌝ }
     ensures { λ _. ⌜ now (out .exit) ≡ decompressAfter (matrix .entry .b) (matrix .entry .rows) (matrix .entry .columns) (now (matrix .entry .words)) (now (out .entry)) ⌝ }
 {
     packing::row_wise_decompress(matrix.b, matrix.rows, matrix.columns, matrix.words, out)

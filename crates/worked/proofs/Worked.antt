@@ -3,7 +3,7 @@ use mathlib.Core.Path.{refl}
 use Rattle.laws.specs.Lists.{build, join, laid}
 use Rattle.laws.specs.Sums.{sum}
 use Rattle.laws.specs.Search.{some, lowest}
-use Rattle.arith.specs.Packing.{shapeBad}
+use Rattle.arith.specs.Packing.{packingShapeBad}
 use Rattle.arith.specs.Packing.{factorOf, slotBits, wordsOf, wordOf, packRow, packed, elementOf, compressNumber}
 use Rattle.arith.specs.Product.{entryOf, product, operandsBad, productNumber}
 use Rattle.arith.specs.Sampler.{accepted, ternary, given, holdsEnough, shortest, tooFew, sampleNumber}
@@ -13,5 +13,5 @@ use Rattle.client.specs.Open.{wraps, marked}
 use Rattle.worked.specs.Worked.{worked, AsStated}
 
 pub as-stated : AsStated worked
-unfolding sum build join laid shapeBad factorOf slotBits wordsOf wordOf packRow packed elementOf compressNumber entryOf product operandsBad productNumber some lowest accepted ternary given holdsEnough shortest tooFew sampleNumber among rounded wraps marked
+unfolding sum build join laid packingShapeBad factorOf slotBits wordsOf wordOf packRow packed elementOf compressNumber entryOf product operandsBad productNumber some lowest accepted ternary given holdsEnough shortest tooFew sampleNumber among rounded wraps marked
 as-stated = (refl, (refl, (refl, (refl, (refl, (refl, (refl, (refl, (refl, (refl, (refl, (refl, tt))))))))))))

@@ -4,7 +4,7 @@ use Prim.Native.Nat.{ℕ}
 use mathlib.Core.List.{List, [], _∷_}
 use Rattle.laws.specs.Refusals.{_⇒_, first}
 use Rattle.arith.specs.Packing.{compressAfter}
-use Rattle.arith.specs.Product.{productAfter}
+use Rattle.arith.specs.Product.{factors, productAfter}
 use Rattle.arith.specs.Sampler.{sampleRead, sampleAfter}
 use Rattle.leaves.specs.Rounding.{rounded}
 use Rattle.client.specs.Open.{wraps, marked}
@@ -34,7 +34,7 @@ worked =
     ∷ case 3 (compressAfter 11 1 2 (2047 ∷ 1 ∷ []) (7 ∷ [])) (67583 ∷ [])
     ∷ case 4 (compressAfter 4 1 5 (15 ∷ 1 ∷ 2 ∷ 3 ∷ 4 ∷ []) (7 ∷ 7 ∷ [])) (50462991 ∷ 4 ∷ [])
     ∷ case 5 (compressAfter 9 1 3 (511 ∷ 1 ∷ 0 ∷ []) (7 ∷ [])) (1535 ∷ [])
-    ∷ case 6 (productAfter 10 1 4 (2 ∷ 3 ∷ 4294967295 ∷ 1 ∷ []) (3147777 ∷ 4 ∷ []) (7 ∷ [])) (9 ∷ [])
+    ∷ case 6 (productAfter (factors 10 1 4 (2 ∷ 3 ∷ 4294967295 ∷ 1 ∷ []) (3147777 ∷ 4 ∷ []) (7 ∷ []))) (9 ∷ [])
     ∷ case 7 (sampleRead 5 6 lentWords ∷ sampleAfter 5 lentWords (7 ∷ 7 ∷ 7 ∷ 7 ∷ 7 ∷ 7 ∷ [])) (7 ∷ 0 ∷ 0 ∷ 1 ∷ 1 ∷ 4294967295 ∷ 4294967295 ∷ [])
     ∷ case 8 (rounded 10 2097152 ∷ []) (0 ∷ [])
     ∷ case 9 (rounded 10 2097153 ∷ []) (1 ∷ [])

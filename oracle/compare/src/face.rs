@@ -1,10 +1,9 @@
 //! The proved library, through the safe crate, with the model's types. Beside a refusal the safe crate shows no values,
-//! so they are then taken from the C face: the call is made again on copies of what was lent.
+//! and 01 says that they are zero; so they are then taken from the C face: the call is made again on copies of what was
+//! lent.
 
-use ladletwig::Refusal;
+use ladletwig::{raw, Refusal};
 use model::{Decoded, LineRead, LineWritten, Made, Opened, Parsed, Replied, Sampled, Table};
-
-use crate::raw;
 
 fn number(answer: Result<(), Refusal>) -> u32 {
     answer.map_or_else(Refusal::number, |()| 0)

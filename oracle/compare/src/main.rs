@@ -13,7 +13,6 @@ mod matrix;
 mod open;
 mod packing;
 mod product;
-mod raw;
 mod reply;
 mod report;
 mod rng;

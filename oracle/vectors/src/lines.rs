@@ -7,7 +7,7 @@ pub fn write(list: &mut List, ticket: u32, words: &[u32], out: &[u8]) {
     let mut after = out.to_vec();
     let said = model::write_query_line(ticket, words, &mut after);
     let call = Call::new(15, "write line").plain("ticket", ticket).buffer("words", words).buffer("out", out);
-    list.add(call, Answer::new(said.number).value(said.length).buffer(&after), By::Model);
+    list.add(call, Answer::new(said.number).value(said.length).line(&after), By::Model);
 }
 
 pub fn read(list: &mut List, line: &[u8], out: &[u32]) {

@@ -1,4 +1,4 @@
-//! The list's two texts. What a line of each looks like is said in crates/vectors/src/line.rt and main.rt.
+//! The list's two texts. What a line of each looks like is said in crates/cases/README.md.
 
 use std::collections::BTreeMap;
 
@@ -53,6 +53,17 @@ impl Answer {
         self.0 += " ]";
         self
     }
+
+    /// The bytes of a line, as a text where each can stand in one.
+    pub fn line(mut self, bytes: &[u8]) -> Answer {
+        let stands = |byte: &u8| *byte == b'\n' || (b' '..=b'~').contains(byte) && !b"\"\\".contains(byte);
+        if !bytes.iter().all(stands) {
+            return self.buffer(bytes);
+        }
+        let letters: String = bytes.iter().map(|byte| char::from(*byte)).collect();
+        self.0 += &format!(" \"{}\"", letters.replace('\n', "\\n"));
+        self
+    }
 }
 
 /// Who answers a call: the Rust where it has an answer to these arguments.
@@ -73,8 +84,8 @@ pub struct List {
 
 impl List {
     pub fn add(&mut self, call: Call, answer: Answer, by: By) {
-        self.calls += &(call.text + "\n");
-        self.answers += &(answer.0 + "\n");
+        self.calls += &format!("{}\n", call.text);
+        self.answers += &format!("{} -> {}\n", call.text, answer.0);
         let [rust, model] = self.counts.entry(call.entry).or_default();
         match by {
             By::Rust => *rust += 1,
@@ -85,8 +96,14 @@ impl List {
     /// A line that is no call, which the program has to say.
     pub fn add_bad(&mut self, line: &str) {
         self.calls += &format!("{line}\n");
-        self.answers += "bad line\n";
+        self.answers += &format!("{line} -> bad line\n");
         self.bad += 1;
+    }
+
+    /// An empty line, which has no answer.
+    pub fn add_empty(&mut self) {
+        self.calls += "\n";
+        self.answers += "\n";
     }
 
     /// How many lines the Rust answered, and how many the model.

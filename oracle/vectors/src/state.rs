@@ -4,9 +4,8 @@
 use crate::list::{Answer, By, Call, List};
 use model::Table;
 
-/// The program's slab: its words, and what they hold at the start.
+/// The words of the program's slab.
 const SLAB: usize = 4608;
-const FILL: u32 = 7;
 
 pub struct State {
     pub table: Table,
@@ -42,8 +41,12 @@ fn with_table(answer: Answer, t: &Table) -> Answer {
 }
 
 impl State {
-    pub fn new() -> State {
-        State { table: model::fresh(0, 0).table, slab: vec![FILL; SLAB] }
+    /// The list's own start, whatever calls stand before it: the table that a refused `fresh` gives, and a slab of sevens.
+    pub fn start(list: &mut List) -> State {
+        let mut state = State { table: model::fresh(0, 0).table, slab: Vec::new() };
+        state.fresh(list, 0, 0);
+        state.lay(list, 7);
+        state
     }
 
     /// What the table needs of the slab.
@@ -119,6 +122,12 @@ impl State {
         let call = Call::new(21, "discard").plain("slab", lent).plain("ticket", ticket);
         list.add(call, with_table(Answer::new(number), &self.table).buffer(&self.slab[..lent]), By::Model);
         number
+    }
+
+    /// Not a call: one value in every word of the slab.
+    fn lay(&mut self, list: &mut List, value: u32) {
+        self.slab = vec![value; SLAB];
+        list.add(Call::new(23, "slab").plain("value", value), Answer::new("slab").buffer(&self.slab), By::Model);
     }
 
     /// Not a call: the table's b, columns and next, a slot's number and a byte of the digests. A slot of 64 and a

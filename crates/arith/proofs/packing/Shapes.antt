@@ -6,15 +6,15 @@ use lib.Dec.{ltb, eqb}
 use borrow.Author.Tests.{ltb-false, eqb-true, not-false}
 use Rattle.laws.specs.Refusals.{outside}
 use Rattle.laws.proofs.Refusals.{neither, inside}
-use Rattle.arith.specs.Packing.{shapeBad}
+use Rattle.arith.specs.Packing.{packingShapeBad}
 
 pub record Shaped (rows k from to lent room : ℕ) : Type 0 where
   pub k-most : k ≤ 4096
   pub whole : lent ≡ rows * from
   pub roomy : rows * to ≤ room
 
-pub shaped : (rows k from to lent room : ℕ) → shapeBad rows k from to lent room ≡ false → Shaped rows k from to lent room
-unfolding shapeBad
+pub shaped : (rows k from to lent room : ℕ) → packingShapeBad rows k from to lent room ≡ false → Shaped rows k from to lent room
+unfolding packingShapeBad
 shaped rows k from to lent room e =
     let p = neither (outside 1 512 rows || outside 1 4096 k || not (eqb lent (rows * from))) (ltb room (rows * to)) e in
     let q = neither (outside 1 512 rows || outside 1 4096 k) (not (eqb lent (rows * from))) (p .0) in

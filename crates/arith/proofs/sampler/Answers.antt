@@ -2,29 +2,16 @@
 use mathlib.Core.Path.{_≡_, sym, ap, _∙_}
 use mathlib.Core.Bool.{false}
 use mathlib.Core.List.{List, [], _∷_}
-use mathlib.Core.Logic.{inl, inr}
 use Prim.Native.Nat.{ℕ, _<_, _≤_}
-use native.Mathlib.Omega.{arith}
 use lib.Dec.{ltb}
 use lib.ListN.{length}
-use types.Run.{OneOf}
-use denote.Enum.Declared.{tagOf}
 use Rattle.laws.specs.Refusals.{_⇒_, outside}
 use Rattle.laws.proofs.Refusals.{passed, inside, kept, written}
-use Rattle.arith.specs.declared.sampler.Sampled.{Sampled}
-use Rattle.arith.specs.declared.sampler.Sampled.the-variants.{Read, Shape, Interval, Short}
-use Rattle.arith.specs.Sampler.{sampledNumber, sampledRead, sampleNumber, sampleRead, shortest, tooFew}
-use Rattle.arith.proofs.sampler.Sampled.{the-type}
+use Rattle.answers.specs.declared.sampler.Sampling.{Sampling}
+use Rattle.answers.specs.declared.sampler.Sampling.the-variants.{Read}
+use Rattle.arith.specs.Sampler.{sampleNumber, sampleRead, shortest, tooFew}
+use Rattle.answers.specs.Sampler.{samplingNumber, samplingRead}
 use Rattle.arith.proofs.sampler.Shortest.{shortest-within}
-
--- an answer other than `Read`, as a `let .. else` tells it, has a number
-pub refusing : (r : Sampled) → OneOf (1 ∷ 2 ∷ 3 ∷ []) (tagOf the-type r) → 0 < sampledNumber r
-refusing (Read n) (inl e) = omega arith
-refusing (Read n) (inr (inl e)) = omega arith
-refusing (Read n) (inr (inr e)) = omega arith
-refusing Shape h = omega arith
-refusing Interval h = omega arith
-refusing Short h = omega arith
 
 module _ (interval n : ℕ) (words : List ℕ) where
   -- a refusal reads none
@@ -32,17 +19,17 @@ module _ (interval n : ℕ) (words : List ℕ) where
   unread h = kept (sampleNumber interval n words) (shortest interval n words) 0 h
 
   -- an answer that reads m words is success, and m is the shortest start's length
-  module _ (r : Sampled) (m : ℕ) (told : r ≡ Read m) (number : sampledNumber r ≡ sampleNumber interval n words) where
+  module _ (r : Sampling) (m : ℕ) (told : r ≡ Read m) (number : samplingNumber r ≡ sampleNumber interval n words) where
     pub success : sampleNumber interval n words ≡ 0
-    success = sym number ∙ ap sampledNumber told
+    success = sym number ∙ ap samplingNumber told
 
-    pub reads : sampledRead r ≡ sampleRead interval n words → m ≡ shortest interval n words
+    pub reads : samplingRead r ≡ sampleRead interval n words → m ≡ shortest interval n words
     reads read =
-        ap sampledRead (sym told)
+        ap samplingRead (sym told)
         ∙ read
         ∙ sym (written (sampleNumber interval n words) (shortest interval n words) 0 success)
 
-    pub read-within : sampledRead r ≡ sampleRead interval n words → m ≤ length words
+    pub read-within : samplingRead r ≡ sampleRead interval n words → m ≤ length words
     read-within read = rw (reads read) (shortest-within interval n words)
 
   -- 0: the interval is within its limits, and there are words enough

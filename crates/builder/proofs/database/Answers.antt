@@ -1,55 +1,33 @@
 -- What a refusal and what success say.
 use mathlib.Core.Path.{_≡_}
 use mathlib.Core.Bool.{false}
-use mathlib.Core.List.{List, [], _∷_}
-use mathlib.Core.Logic.{inl, inr}
-use Prim.Native.Nat.{ℕ, _<_, _≤_}
-use native.Mathlib.Omega.{arith}
-use lib.ListN.{length}
-use types.Run.{OneOf}
-use denote.Enum.Declared.{tagOf}
+use mathlib.Core.List.{[], _∷_}
+use Prim.Native.Nat.{_≤_}
 use Rattle.laws.specs.Refusals.{_⇒_, widthBad}
 use Rattle.laws.proofs.Refusals.{passed, inside}
 use Rattle.leaves.specs.Limits.{elementsBad}
-use Rattle.builder.specs.declared.database.Built.{Built}
-use Rattle.builder.specs.declared.database.Built.the-variants.{Done, Width, Shape, Element, Placement}
-use Rattle.builder.specs.Keys.{lentKeys}
 use Rattle.builder.specs.Placement.{placementBad}
-use Rattle.builder.specs.Database.{builtNumber, keysBad, buildNumber}
-use Rattle.builder.proofs.database.Built.{the-type}
+use Rattle.builder.specs.Database.{Proposed, keysOf, keysBad, buildNumber}
 use Rattle.builder.proofs.database.Sizes.{Sized, sized}
 
--- an answer other than `Done`, as a `let .. else` tells it, has a number
-pub refusing : (a : Built) → OneOf (1 ∷ 2 ∷ 3 ∷ 4 ∷ []) (tagOf the-type a) → 0 < builtNumber a
-refusing Done (inl e) = omega arith
-refusing Done (inr (inl e)) = omega arith
-refusing Done (inr (inr (inl e))) = omega arith
-refusing Done (inr (inr (inr e))) = omega arith
-refusing Width h = omega arith
-refusing Shape h = omega arith
-refusing Element h = omega arith
-refusing Placement h = omega arith
-
 -- 0: no test holds
-pub record Accepted (b r columns count : ℕ) (rows masks positions targets : List ℕ) (room : ℕ) : Type 0 where
-  pub b-most : b ≤ 14
-  pub shape : Sized r columns count (length rows) (length masks) (length positions) (length targets) room
-  pub elements : elementsBad b rows ≡ false
-  pub placement : placementBad r (lentKeys columns rows masks positions targets) count ≡ false
+pub record Accepted (p : Proposed) : Type 0 where
+  pub b-most : p .b ≤ 14
+  pub shape : Sized p
+  pub elements : elementsBad (p .b) (p .rows) ≡ false
+  pub placement : placementBad (p .r) (keysOf p) (p .count) ≡ false
 
-pub accepted : (b r columns count : ℕ) (rows masks positions targets : List ℕ) (room : ℕ)
-    → buildNumber b r columns count rows masks positions targets room ≡ 0
-    → Accepted b r columns count rows masks positions targets room
+pub accepted : (p : Proposed) → buildNumber p ≡ 0 → Accepted p
 unfolding buildNumber
-accepted b r columns count rows masks positions targets room e =
-    let shape = keysBad r columns count (length rows) (length masks) (length positions) (length targets) room in
-    let broken = placementBad r (lentKeys columns rows masks positions targets) count in
-    let p = passed (widthBad b) 0 (shape ⇒ 2 ∷ elementsBad b rows ⇒ 17 ∷ broken ⇒ 15 ∷ []) e in
-    let q = passed shape 1 (elementsBad b rows ⇒ 17 ∷ broken ⇒ 15 ∷ []) (p .1) in
-    let s = passed (elementsBad b rows) 16 (broken ⇒ 15 ∷ []) (q .1) in
+accepted p e =
+    let large = elementsBad (p .b) (p .rows) in
+    let broken = placementBad (p .r) (keysOf p) (p .count) in
+    let q = passed (widthBad (p .b)) 0 (keysBad p ⇒ 2 ∷ large ⇒ 17 ∷ broken ⇒ 15 ∷ []) e in
+    let s = passed (keysBad p) 1 (large ⇒ 17 ∷ broken ⇒ 15 ∷ []) (q .1) in
+    let t = passed large 16 (broken ⇒ 15 ∷ []) (s .1) in
     record {
-      b-most = inside 4 14 b (p .0) .1;
-      shape = sized (q .0);
-      elements = s .0;
-      placement = passed broken 14 [] (s .1) .0;
+      b-most = inside 4 14 (p .b) (q .0) .1;
+      shape = sized p (s .0);
+      elements = t .0;
+      placement = passed broken 14 [] (t .1) .0;
     }

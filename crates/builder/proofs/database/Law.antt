@@ -93,7 +93,8 @@ module _ (b r columns : ℕ) (ks : Keys) (count : ℕ) (rule : placementBad r ks
         (length-build columns (fresh b r columns ks n)) 0 j l
         ∙ getD-build columns (fresh b r columns ks n) j 0 l
 
-    left : (q : ℕ) → ¬ (q ≡ target ks n) → cell columns (database b r columns ks (suc n)) q j ≡ cell columns (database b r columns ks n) q j
+    left : (q : ℕ) → ¬ (q ≡ target ks n)
+        → cell columns (database b r columns ks (suc n)) q j ≡ cell columns (database b r columns ks n) q j
     unfolding database
     left q ne =
         row-other columns (target ks n) (build columns (fresh b r columns ks n)) (database b r columns ks n) fits

@@ -1,50 +1,67 @@
 -- What a shape that was not refused says.
-use mathlib.Core.Path.{_≡_}
+use mathlib.Core.Path.{_≡_, refl}
 use mathlib.Core.Bool.{Bool, false, not, _||_}
 use Prim.Native.Nat.{ℕ, _*_, _≤_}
 use lib.Dec.{ltb, eqb}
+use lib.ListN.{length}
 use borrow.Author.Tests.{ltb-false, eqb-true, not-false}
 use Rattle.laws.specs.Refusals.{outside}
 use Rattle.laws.proofs.Refusals.{neither, inside}
-use Rattle.builder.specs.Database.{keysBad}
+use Rattle.builder.specs.Database.{Proposed, proposed, keysBad}
 
-pub record Sized (r columns count rows masks positions targets room : ℕ) : Type 0 where
-  pub r-most : r ≤ 4096
-  pub columns-most : columns ≤ 512
-  pub rows-whole : rows ≡ count * columns
-  pub masks-whole : masks ≡ count * columns
-  pub positions-whole : positions ≡ count * 4
-  pub targets-whole : targets ≡ count
-  pub roomy : r * columns ≤ room
+pub record Sized (p : Proposed) : Type 0 where
+  pub r-most : p .r ≤ 4096
+  pub columns-most : p .columns ≤ 512
+  pub rows-whole : length (p .rows) ≡ p .count * p .columns
+  pub masks-whole : length (p .masks) ≡ p .count * p .columns
+  pub positions-whole : length (p .positions) ≡ p .count * 4
+  pub targets-whole : length (p .targets) ≡ p .count
+  pub roomy : p .r * p .columns ≤ length (p .held)
 
 same : (x y : ℕ) → not (eqb x y) ≡ false → x ≡ y
 same x y e = eqb-true x y (not-false (eqb x y) e)
 
-module _ {r columns count rows masks positions targets room : ℕ} where
-  pub sized : keysBad r columns count rows masks positions targets room ≡ false
-      → Sized r columns count rows masks positions targets room
+module _ (p : Proposed) where
+  abbrev rows-bad : Bool
+  rows-bad = not (eqb (length (p .rows)) (p .count * p .columns))
+
+  abbrev masks-bad : Bool
+  masks-bad = not (eqb (length (p .masks)) (p .count * p .columns))
+
+  abbrev positions-bad : Bool
+  positions-bad = not (eqb (length (p .positions)) (p .count * 4))
+
+  abbrev targets-bad : Bool
+  targets-bad = not (eqb (length (p .targets)) (p .count))
+
+  pub sized : keysBad p ≡ false → Sized p
   unfolding keysBad
   sized e =
-      let t1 : Bool = outside 1 4096 r in
-      let t2 : Bool = t1 || outside 1 512 columns in
-      let t3 : Bool = t2 || ltb r count in
-      let t4 : Bool = t3 || not (eqb rows (count * columns)) in
-      let t5 : Bool = t4 || not (eqb masks (count * columns)) in
-      let t6 : Bool = t5 || not (eqb positions (count * 4)) in
-      let t7 : Bool = t6 || not (eqb targets count) in
-      let p8 = neither t7 (ltb room (r * columns)) e in
-      let p7 = neither t6 (not (eqb targets count)) (p8 .0) in
-      let p6 = neither t5 (not (eqb positions (count * 4))) (p7 .0) in
-      let p5 = neither t4 (not (eqb masks (count * columns))) (p6 .0) in
-      let p4 = neither t3 (not (eqb rows (count * columns))) (p5 .0) in
-      let p3 = neither t2 (ltb r count) (p4 .0) in
-      let p2 = neither t1 (outside 1 512 columns) (p3 .0) in
+      let t1 : Bool = outside 1 4096 (p .r) in
+      let t2 : Bool = t1 || outside 1 512 (p .columns) in
+      let t3 : Bool = t2 || ltb (p .r) (p .count) in
+      let t4 : Bool = t3 || rows-bad in
+      let t5 : Bool = t4 || masks-bad in
+      let t6 : Bool = t5 || positions-bad in
+      let q8 = neither (t6 || targets-bad) (ltb (length (p .held)) (p .r * p .columns)) e in
+      let q7 = neither t6 targets-bad (q8 .0) in
+      let q6 = neither t5 positions-bad (q7 .0) in
+      let q5 = neither t4 masks-bad (q6 .0) in
+      let q4 = neither t3 rows-bad (q5 .0) in
+      let q3 = neither t2 (ltb (p .r) (p .count)) (q4 .0) in
+      let q2 = neither t1 (outside 1 512 (p .columns)) (q3 .0) in
       record {
-        r-most = inside 1 4096 r (p2 .0) .1;
-        columns-most = inside 1 512 columns (p2 .1) .1;
-        rows-whole = same rows (count * columns) (p4 .1);
-        masks-whole = same masks (count * columns) (p5 .1);
-        positions-whole = same positions (count * 4) (p6 .1);
-        targets-whole = same targets count (p7 .1);
-        roomy = ltb-false room (r * columns) (p8 .1);
+        r-most = inside 1 4096 (p .r) (q2 .0) .1;
+        columns-most = inside 1 512 (p .columns) (q2 .1) .1;
+        rows-whole = same (length (p .rows)) (p .count * p .columns) (q4 .1);
+        masks-whole = same (length (p .masks)) (p .count * p .columns) (q5 .1);
+        positions-whole = same (length (p .positions)) (p .count * 4) (q6 .1);
+        targets-whole = same (length (p .targets)) (p .count) (q7 .1);
+        roomy = ltb-false (length (p .held)) (p .r * p .columns) (q8 .1);
       }
+
+-- the test asks nothing of b
+pub any-width : (p : Proposed)
+    → keysBad (proposed 0 (p .r) (p .columns) (p .count) (p .rows) (p .masks) (p .positions) (p .targets) (p .held)) ≡ keysBad p
+unfolding keysBad
+any-width p = refl

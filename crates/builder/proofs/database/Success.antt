@@ -17,9 +17,9 @@ use Rattle.laws.proofs.Sums.{sum-ext}
 use Rattle.leaves.specs.Limits.{anyAbove, elementsBad}
 use Rattle.plain.specs.Matrix.{cell}
 use Rattle.leaves.proofs.positions.Distinct.{below}
-use Rattle.builder.specs.Keys.{Keys, lentKeys}
+use Rattle.builder.specs.Keys.{Keys}
 use Rattle.builder.specs.Placement.{placementBad}
-use Rattle.builder.specs.Database.{rowsSum, database, buildNumber, buildAfter}
+use Rattle.builder.specs.Database.{rowsSum, database, Proposed, keysOf, buildNumber, buildAfter}
 use Rattle.builder.proofs.placement.Rule.{each-fine}
 use Rattle.builder.proofs.database.Answers.{accepted}
 use Rattle.builder.proofs.database.Law.{length-database, key-row}
@@ -47,18 +47,16 @@ module _ (b r columns : ℕ) (ks : Keys) (count : ℕ) (rule : placementBad r ks
         digits-lt (below r ps (each-fine r ks count rule i h .placed) s m) l,
       )))
 
-pub built-row : (b r columns count : ℕ) (rows masks positions targets held : List ℕ)
-    → buildNumber b r columns count rows masks positions targets (length held) ≡ 0
-    → (i : ℕ) → i < count → (j : ℕ) → j < columns
-    → (rowsSum columns (buildAfter b r columns count rows masks positions targets held) (row 4 positions i) j
-    + getD masks (i * columns + j) 0) % 2 ^ b
-    ≡ getD rows (i * columns + j) 0
-built-row b r columns count rows masks positions targets held z i h j l =
-    let ks = lentKeys columns rows masks positions targets in
-    let g = accepted b r columns count rows masks positions targets (length held) z in
-    let d = database b r columns ks count in
-    let e : buildAfter b r columns count rows masks positions targets held ≡ laid d held = sym (written _ (laid d held) held z) in
-    let small = fits b rows (g .elements) (i * columns + j) (omega (arith, room i count columns h, g .shape .rows-whole)) in
+pub built-row : (p : Proposed) → buildNumber p ≡ 0 → (i : ℕ) → i < p .count → (j : ℕ) → j < p .columns
+    → (rowsSum (p .columns) (buildAfter p) (row 4 (p .positions) i) j + getD (p .masks) (i * p .columns + j) 0) % 2 ^ p .b
+    ≡ getD (p .rows) (i * p .columns + j) 0
+built-row p z i h j l =
+    let at : ℕ = i * p .columns + j in
+    let g = accepted p z in
+    let d = database (p .b) (p .r) (p .columns) (keysOf p) (p .count) in
+    let e : buildAfter p ≡ laid d (p .held) = sym (written _ (laid d (p .held)) (p .held) z) in
+    let small = fits (p .b) (p .rows) (g .elements) at (omega (arith, room i (p .count) (p .columns) h, g .shape .rows-whole)) in
     rw e
-    (ap (λ (x : ℕ). (x + getD masks (i * columns + j) 0) % 2 ^ b) (kept b r columns ks count (g .placement) held i h j l)
-    ∙ key-row b r columns ks count (g .placement) i h j l small)
+    (ap (λ (x : ℕ). (x + getD (p .masks) at 0) % 2 ^ p .b)
+    (kept (p .b) (p .r) (p .columns) (keysOf p) (p .count) (g .placement) (p .held) i h j l)
+    ∙ key-row (p .b) (p .r) (p .columns) (keysOf p) (p .count) (g .placement) i h j l small)

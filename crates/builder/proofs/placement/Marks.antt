@@ -37,13 +37,15 @@ marked-more ps n old new h m = record {
 }
   where
     here : (q : ℕ) → getD ps n 0 ≡ q
-        → getD (set new (getD ps n 0) true) q false ≡ (getD old q false || (some n (λ s. eqb (getD ps s 0) q) || eqb (getD ps n 0) q))
+        → getD (set new (getD ps n 0) true) q false
+        ≡ (getD old q false || (some n (λ s. eqb (getD ps s 0) q) || eqb (getD ps n 0) q))
     here q e =
         rw (eq-eqb (getD ps n 0) q e, or-true (some n (λ s. eqb (getD ps s 0) q)), or-true (getD old q false), ← e)
         (getD-set-same new (getD ps n 0) true false (omega (arith, m .long)))
 
     other : (q : ℕ) → ¬ (getD ps n 0 ≡ q)
-        → getD (set new (getD ps n 0) true) q false ≡ (getD old q false || (some n (λ s. eqb (getD ps s 0) q) || eqb (getD ps n 0) q))
+        → getD (set new (getD ps n 0) true) q false
+        ≡ (getD old q false || (some n (λ s. eqb (getD ps s 0) q) || eqb (getD ps n 0) q))
     other q k =
         rw (ne-eqb (getD ps n 0) q k, or-false (some n (λ s. eqb (getD ps s 0) q)))
         (getD-set-other new (getD ps n 0) q true false (λ e. k (sym e)) ∙ m .marked q)

@@ -32,6 +32,7 @@ each-fine r ks count h i l = fine r ks i (none-holds (keyBad r ks) count i h l)
 
 -- the rule asks nothing of rows and masks
 pub any-rows : (r columns : ℕ) (rows masks positions targets : List ℕ) (count : ℕ)
-    → placementBad r (lentKeys 0 [] [] positions targets) count ≡ placementBad r (lentKeys columns rows masks positions targets) count
+    → placementBad r (lentKeys 0 [] [] positions targets) count
+    ≡ placementBad r (lentKeys columns rows masks positions targets) count
 unfolding placementBad keyBad seenBefore
 any-rows r columns rows masks positions targets count = refl

@@ -2,28 +2,15 @@
 use mathlib.Core.Path.{_≡_}
 use mathlib.Core.Bool.{true, false, not}
 use mathlib.Core.List.{[], _∷_}
-use Prim.Native.Nat.{ℕ, _*_, _<_}
-use native.Mathlib.Omega.{arith}
+use Prim.Native.Nat.{ℕ, _*_}
 use lib.Dec.{eqb}
 use borrow.Author.Tests.{eqb-true, not-false}
-use types.Run.{OneOf, miss}
-use denote.Enum.Declared.{tagOf}
 use Rattle.laws.specs.Refusals.{_⇒_}
 use Rattle.laws.proofs.Refusals.{passed}
 use Rattle.pending.specs.Table.{malformed, pending}
 use Rattle.pending.proofs.table.Answers.{Closable}
-use Rattle.client.specs.Discard.{discardingNumber, discardNumber}
+use Rattle.client.specs.Discard.{discardNumber}
 use Rattle.pending.specs.declared.table.Table.{Table}
-use Rattle.client.specs.declared.discard.Discarding.{Discarding}
-use Rattle.client.specs.declared.discard.Discarding.the-variants.{Done, Malformed, Shape, NotPending}
-use Rattle.client.proofs.discard.Discarding.{the-type}
-
--- an answer other than `Done`, as a `let .. else` tells it, has a number
-pub refusing : (r : Discarding) → OneOf (1 ∷ 2 ∷ 3 ∷ []) (tagOf the-type r) → 0 < discardingNumber r
-refusing Done h = absurd (miss (1 ∷ 2 ∷ 3 ∷ []) 0 tt h)
-refusing Malformed h = omega arith
-refusing Shape h = omega arith
-refusing NotPending h = omega arith
 
 -- 0: the table is well formed, the slab has its words, and the ticket is pending
 pub record Accepted (t : Table) (slab ticket : ℕ) : Type 0 where

@@ -9,34 +9,19 @@ use native.Mathlib.Omega.{arith}
 use lib.Dec.{eqb}
 use lib.ListN.{length, replicate}
 use borrow.Author.Tests.{eqb-false, ne-eqb}
-use types.Run.{OneOf, miss}
-use denote.Enum.Declared.{tagOf}
 use Rattle.laws.specs.Refusals.{_⇒_, first, after, outside}
 use Rattle.laws.specs.Lists.{splice, laid}
 use Rattle.laws.proofs.Refusals.{passed, refused-before, Clear, all-clear, clear-before, not-answered}
 use Rattle.leaves.specs.Positions.{positionsBad}
 use Rattle.pending.specs.declared.table.Table.{Table}
-use Rattle.client.specs.declared.open.Opening.{Opening}
-use Rattle.client.specs.declared.open.Opening.the-variants as opening
+use Rattle.client_answers.specs.declared.open.Opening.{Opening}
+use Rattle.client_answers.specs.declared.open.Opening.the-variants as opening
 use Rattle.pending.specs.Table.{digestPending, full, slotOf, taken}
 use Rattle.client.specs.Open.{Asked, bothRead, eitherShort, wraps, marked, noisyOf, storedSecret, openTests, openNumber}
-use Rattle.client.specs.Open.{OpenSaid, openingNumber, openingTicket, openingRead, openOf, left, openLeft}
+use Rattle.client.specs.Open.{OpenSaid, openOf, left, openLeft}
+use Rattle.client_answers.specs.Open.{openingNumber, openingTicket, openingRead}
 use Rattle.pending.proofs.table.Slots.{slot-free}
-use Rattle.client.proofs.open.Opening.{the-type}
 use Rattle.client.proofs.open.Sizes.{Limited, limited, Shaped, shaped}
-
--- an answer other than a ticket, as a `let .. else` tells it, has a number
-pub refusing : (o : Opening) → OneOf (1 ∷ 2 ∷ 3 ∷ 4 ∷ 5 ∷ 6 ∷ 7 ∷ 8 ∷ 9 ∷ []) (tagOf the-type o) → 0 < openingNumber o
-refusing (opening.Ticket t k) h = absurd (miss (1 ∷ 2 ∷ 3 ∷ 4 ∷ 5 ∷ 6 ∷ 7 ∷ 8 ∷ 9 ∷ []) 0 tt h)
-refusing opening.Malformed h = omega arith
-refusing opening.Shape h = omega arith
-refusing opening.Interval h = omega arith
-refusing opening.Positions h = omega arith
-refusing opening.Pending h = omega arith
-refusing opening.Full h = omega arith
-refusing opening.Numbers h = omega arith
-refusing opening.Short h = omega arith
-refusing (opening.Wraps k) h = omega arith
 
 -- the ticket and the count that an answer gives
 module _ (o : Opening) (t k : ℕ) (told : o ≡ opening.Ticket t k) where

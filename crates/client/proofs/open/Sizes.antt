@@ -7,10 +7,10 @@ use lib.Dec.{ltb, eqb}
 use borrow.Author.Tests.{ltb-false, eqb-true, eqb-false, not-false}
 use Rattle.laws.specs.Refusals.{outside}
 use Rattle.laws.proofs.Refusals.{neither, inside}
-use Rattle.arith.specs.Codec.{columnsBad}
+use Rattle.rows.specs.Codec.{columnsBad}
 use Rattle.pending.specs.declared.table.Table.{Table}
 use Rattle.pending.specs.Table.{malformed}
-use Rattle.client.specs.Open.{shapeBad}
+use Rattle.client.specs.Open.{openShapeBad}
 use Rattle.pending.proofs.table.Formed.{formed}
 
 -- a table's width and its columns are within their limits, and its next number is one
@@ -46,9 +46,9 @@ pub record Shaped (columns n r slab matrix hint secret error query : ℕ) : Type
 same : (x y : ℕ) → not (eqb x y) ≡ false → x ≡ y
 same x y e = eqb-true x y (not-false (eqb x y) e)
 
-pub shaped : (columns n r slab matrix hint secret error query : ℕ) → shapeBad columns n r slab matrix hint secret error query ≡ false
+pub shaped : (columns n r slab matrix hint secret error query : ℕ) → openShapeBad columns n r slab matrix hint secret error query ≡ false
     → Shaped columns n r slab matrix hint secret error query
-unfolding shapeBad
+unfolding openShapeBad
 shaped columns n r slab matrix hint secret error query h =
     let dims = outside 1 2048 n || outside 1 4096 r in
     let m = not (eqb matrix (n * r)) in

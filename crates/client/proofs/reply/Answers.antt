@@ -8,46 +8,33 @@ use native.Mathlib.Omega.{arith}
 use lib.Dec.{ltb, eqb}
 use lib.ListN.{length}
 use borrow.Author.Tests.{ltb-false, eqb-true, ne-eqb, not-false}
-use types.Run.{OneOf, miss}
-use denote.Enum.Declared.{tagOf}
 use Rattle.laws.specs.Refusals.{Test, _⇒_, first, after}
 use Rattle.laws.specs.Lists.{row, laid}
 use Rattle.laws.proofs.Refusals.{neither, refused-before, Clear, all-clear, clear-before, not-answered, kept}
-use Rattle.arith.specs.Codec.{valueRoom, valueLength, valueOf}
+use Rattle.rows.specs.Codec.{valueRoom, valueLength, valueOf}
 use Rattle.pending.specs.declared.table.Table.{Table}
-use Rattle.client.specs.declared.reply.Reply.{Reply}
-use Rattle.client.specs.declared.reply.Reply.the-variants as reply
+use Rattle.client_answers.specs.declared.reply.Replying.{Replying}
+use Rattle.client_answers.specs.declared.reply.Replying.the-variants as reply
 use Rattle.pending.specs.Table.{used, malformed, pending, closed, wiped}
 use Rattle.client.specs.Reply.{Received, lentBad, recovered, slotFor, rowFor, rowTests, rowNumber, replyNumber, closing}
-use Rattle.client.specs.Reply.{replyingNumber, replyingLength, replyLength, replySaid, replyOf, replySlab, replyValue}
+use Rattle.client.specs.Reply.{replyLength, replySaid, replyOf, replySlab, replyValue}
+use Rattle.client_answers.specs.Reply.{replyingNumber, replyingLength}
 use Rattle.pending.proofs.table.Slots.{slot-pending, slot-used}
 use Rattle.pending.proofs.table.Formed.{Formed, formed}
 use Rattle.pending.proofs.table.Answers.{Closable}
-use Rattle.client.proofs.reply.Reply.{the-type}
-
--- an answer other than a value, as a `let .. else` tells it
-pub refusing : (r : Reply) → OneOf (1 ∷ 2 ∷ 3 ∷ 4 ∷ 5 ∷ 6 ∷ 7 ∷ []) (tagOf the-type r) → 0 < replyingNumber r
-refusing (reply.Value n) h = absurd (miss (1 ∷ 2 ∷ 3 ∷ 4 ∷ 5 ∷ 6 ∷ 7 ∷ []) 0 tt h)
-refusing reply.Malformed h = omega arith
-refusing reply.Shape h = omega arith
-refusing reply.NotPending h = omega arith
-refusing reply.Length h = omega arith
-refusing reply.Element h = omega arith
-refusing reply.Marker h = omega arith
-refusing reply.Digest h = omega arith
 
 -- what an answer says, and what the value buffer holds
-pub record Told (a : Received) (r : Reply) (value : List ℕ) : Type 0 where
+pub record Told (a : Received) (r : Replying) (value : List ℕ) : Type 0 where
   pub number-is : replyingNumber r ≡ replyNumber a
   pub length-is : replyingLength r ≡ replyLength a
   pub value-is : value ≡ replyValue a
 
 -- all that a reply promises
-abbrev Promised : Received → Reply → Table → List ℕ → List ℕ → Type 0
+abbrev Promised : Received → Replying → Table → List ℕ → List ℕ → Type 0
 Promised a r t slab value =
     (replySaid (record { answer = r; table = t }) ≡ replyOf a) × ((slab ≡ replySlab a) × (value ≡ replyValue a))
 
-module _ (a : Received) (r : Reply) (value : List ℕ) (told : Told a r value) where
+module _ (a : Received) (r : Replying) (value : List ℕ) (told : Told a r value) where
   said : (t : Table) → t ≡ cond (closing (replyNumber a)) (closed (a .table) (slotFor a)) (a .table)
       → replySaid (record { answer = r; table = t }) ≡ replyOf a
   said t e = let n = told .number-is in let l = told .length-is in cc
@@ -91,7 +78,7 @@ module _ (a : Received) where
           not-answered 13 early (refl, (refl, (refl, (refl, tt)))),
         )
 
-    pub early-told : (r : Reply) → replyingNumber r ≡ first early → replyingLength r ≡ 0 → Told a r (a .value)
+    pub early-told : (r : Replying) → replyingNumber r ≡ first early → replyingLength r ≡ 0 → Told a r (a .value)
     early-told r e l =
         let pos : 0 < replyNumber a = rw early-number refused in
         record { number-is = e ∙ sym early-number; length-is = l ∙ kept _ _ _ pos; value-is = kept _ _ _ pos }
@@ -144,13 +131,13 @@ module _ (a : Received) where
     abbrev rowAt : ℕ → List ℕ
     rowAt s = recovered (a .table .b) (row (a .table .columns) (a .slab) s) (a .response) (a .masks)
 
-    abbrev Answered : ℕ → Reply → List ℕ → Type 0
+    abbrev Answered : ℕ → Replying → List ℕ → Type 0
     Answered s r value =
         (replyingNumber r ≡ rowNumber (a .table) s (rowAt s))
         × ((replyingLength r ≡ after (replyingNumber r) (valueLength (a .table .b) (a .table .columns) (rowAt s)) 0)
         × (value ≡ after (replyingNumber r) (laid (valueOf (a .table .b) (a .table .columns) (rowAt s)) (a .value)) (a .value)))
 
-    pub row-told : (s : ℕ) → s ≡ slotFor a → (r : Reply) (value : List ℕ) → Answered s r value → Told a r value
+    pub row-told : (s : ℕ) → s ≡ slotFor a → (r : Replying) (value : List ℕ) → Answered s r value → Told a r value
     row-told s e r value p =
         let q : Answered (slotFor a) r value = subst (λ (i : ℕ). Answered i r value) e p in
         let n : replyingNumber r ≡ replyNumber a = q .0 ∙ sym row-number in

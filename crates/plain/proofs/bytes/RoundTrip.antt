@@ -17,7 +17,7 @@ use Rattle.laws.proofs.Lists.{getD-part, length-build, getD-build, build-ext, b
 use Rattle.laws.proofs.Sums.{sum-ext}
 use Rattle.laws.proofs.Digits.{low-digits}
 use Rattle.plain.specs.Matrix.{matrixBad}
-use Rattle.plain.specs.Bytes.{wordBytes, allBytes, matrixBytes, wordAt, rowsOf, columnsOf, elementsOf, lengthBad, parsedBad, readNumber}
+use Rattle.plain.specs.Bytes.{wordBytes, allBytes, matrixBytes, wordAt, rowsOf, columnsOf, elementsOf, lengthBad, parsedBad, fromBytesNumber}
 use Rattle.plain.proofs.matrix.Shapes.{sized}
 use Rattle.plain.proofs.bytes.Words.{length-bytes}
 
@@ -100,9 +100,8 @@ module _
     unfolding lengthBad
     length-fine =
         let n = length-matrix rows columns words in
-        let least : 8 ≤ length made = omega arith in
         let whole : length made ≡ 8 + 4 * (rowsOf made * columnsOf made) = n ∙ ap (λ (k : ℕ). 8 + 4 * k) (sym area) in
-        ap₂ (λ (s t : Bool). s || not t) (le-ltb (length made) 8 least) (eq-eqb _ _ whole)
+        ap not (eq-eqb _ _ whole)
 
     shape-fine : parsedBad made room ≡ false
     unfolding parsedBad
@@ -113,7 +112,7 @@ module _
         ap₂ (λ (m n : ℕ). outside 1 4096 m || outside 1 4096 n || ltb room (m * n)) rows-back columns-back
         ∙ ap₂ _||_ (ap₂ _||_ r c) (le-ltb room (rows * columns) roomy)
 
-    pub read-back : (readNumber made room ≡ 0) × (rowsOf made ≡ rows) × (columnsOf made ≡ columns) × (elementsOf made ≡ words)
-    unfolding readNumber
+    pub read-back : (fromBytesNumber made room ≡ 0) × (rowsOf made ≡ rows) × (columnsOf made ≡ columns) × (elementsOf made ≡ words)
+    unfolding fromBytesNumber
     read-back =
         (ap₂ (λ (s t : Bool). first (s ⇒ 11 ∷ t ⇒ 2 ∷ [])) length-fine shape-fine, rows-back, columns-back, words-back)

@@ -19,10 +19,10 @@ accepted rows columns lent room wanted e =
     (sized rows columns lent (p .0), ltb-false room wanted (p .1))
 
 -- the same of two factors and their product
-pub factors-accepted : (r m c left right room : ℕ)
-    → first ((matrixBad r m left || matrixBad m c right || ltb room (r * c)) ⇒ 2 ∷ []) ≡ 0
-    → Sized r m left × Sized m c right × (r * c ≤ room)
-factors-accepted r m c left right room e =
-    let p = neither (matrixBad r m left || matrixBad m c right) (ltb room (r * c)) (passed _ 1 [] e .0) in
-    let q = neither (matrixBad r m left) (matrixBad m c right) (p .0) in
-    (sized r m left (q .0), sized m c right (q .1), ltb-false room (r * c) (p .1))
+pub factors-accepted : (r m c lentLeft lentRight room : ℕ)
+    → first ((matrixBad r m lentLeft || matrixBad m c lentRight || ltb room (r * c)) ⇒ 2 ∷ []) ≡ 0
+    → Sized r m lentLeft × Sized m c lentRight × (r * c ≤ room)
+factors-accepted r m c lentLeft lentRight room e =
+    let p = neither (matrixBad r m lentLeft || matrixBad m c lentRight) (ltb room (r * c)) (passed _ 1 [] e .0) in
+    let q = neither (matrixBad r m lentLeft) (matrixBad m c lentRight) (p .0) in
+    (sized r m lentLeft (q .0), sized m c lentRight (q .1), ltb-false room (r * c) (p .1))

@@ -1,6 +1,6 @@
 -- What a thin function hands on and what it answers. Its callee's answer is its own, so nothing of a parameter is kept for the exit.
 --     quiet        nothing is said at exit of n parameters, and P of those after them
---     answers      a callee's postcondition becomes the caller's, where what it ensures is what the caller ensures. Both answer with a `Packed`, and
+--     answers      a callee's postcondition becomes the caller's, where what it ensures is what the caller ensures. Both answer with a `Packing`, and
 --                  leave a last list in the output x, which comes after n parameters of the callee and after k of the caller
 --     apart        what a view owns is what its fields own
 use mathlib.Core.Path.{_≡_, refl, subst, sym}
@@ -21,9 +21,9 @@ use denote.Ref.{RefT, NamedLft, name, now}
 use denote.Slice.{finally}
 use denote.Steps.{peeks}
 use denote.Struct.Rest.{all-own, own-open}
-use Rattle.arith.specs.declared.packing.Packed.{Packed}
-use Rattle.arith.proofs.packing.Packed as S
-use Rattle.arith.proofs.packing.Packed.Laws as S′
+use Rattle.answers.specs.declared.packing.Packing.{Packing}
+use Rattle.answers.proofs.packing.Packing as S
+use Rattle.answers.proofs.packing.Packing.Laws as S′
 use Rattle.view.specs.declared.packed.PackedMatrix.{PackedMatrix}
 use Rattle.view.proofs.packed.PackedMatrix as T
 use Rattle.view.proofs.packed.PackedMatrix.Laws as T′
@@ -85,16 +85,16 @@ module _ {M : Type 1} (𝓤 : URA M) (H : Heap 𝓤) (A : Atoms 𝓤) where
 
     module _ (L : SProp 𝓤) where
       -- L, which are the tokens, and an answer r at the machine value u
-      abbrev Back : ℕ → (Packed → List ℕ → SProp 𝓤) → Val → Packed → SProp 𝓤
+      abbrev Back : ℕ → (Packing → List ℕ → SProp 𝓤) → Val → Packing → SProp 𝓤
       Back n E u r = sep 𝓤 (sep 𝓤 L (sem 𝓤 H A (S.the-row .own r (u ∷ [])))) (Ends n (E r))
 
-      abbrev Answer : ℕ → (Packed → List ℕ → SProp 𝓤) → Val → SProp 𝓤
+      abbrev Answer : ℕ → (Packing → List ℕ → SProp 𝓤) → Val → SProp 𝓤
       Answer n E u = H .⇛ (ex 𝓤 (Back n E u))
 
-      pub answers : Given 𝓤 H A → (n k : ℕ) (E E′ : Packed → List ℕ → SProp 𝓤) → ((r : Packed) (zs : List ℕ) → ent 𝓤 (E r zs) (E′ r zs))
+      pub answers : Given 𝓤 H A → (n k : ℕ) (E E′ : Packing → List ℕ → SProp 𝓤) → ((r : Packing) (zs : List ℕ) → ent 𝓤 (E r zs) (E′ r zs))
           → (u : Val) → ent 𝓤 (Answer n E u) (H .⇛ (guard 𝓤 (Typed (S.the-row .mir) (u ∷ [])) (Answer k E′ u)))
       answers W n k E E′ same u =
-          qed W (later (some (λ (r : Packed). (raw L ⊛ ‵ (S.the-row .own r (u ∷ []))) ⊛ raw (Ends n (E r)))) ∷ []) ∵ updating ! $ await ! tt $ pick ! (λ r.
+          qed W (later (some (λ (r : Packing). (raw L ⊛ ‵ (S.the-row .own r (u ∷ []))) ⊛ raw (Ends n (E r)))) ∷ []) ∵ updating ! $ await ! tt $ pick ! (λ r.
           split ! $ split ! $ move ! (1 ∷ []) $ peeks ! S.the-row (Is S.the-row) (shows 𝓤 H A S.the-row) r (u ∷ []) (λ is.
           at-once ! $ check ! (EL.lawful S.the-type S′.the-laws 𝓤 H A W tt .typed r (u ∷ []) is) $ updating ! $ at-once ! $
           show ! (Back k E′ u) r $ move ! (1 ∷ 0 ∷ []) $ join ! $ frame ! $ use1 W (raw (Ends k (E′ r))) (ends n k (E r) (E′ r) (same r)) $ done !))

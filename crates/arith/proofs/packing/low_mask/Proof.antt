@@ -1,20 +1,24 @@
--- The bit stays inside the word.
-use mathlib.Core.Path.{ap}
-use Prim.Native.Nat.{ℕ, _-_}
+-- 2^b, less one.
+use mathlib.Core.Path.{_≡_, ap, _∙_}
+use Prim.Native.Nat.{ℕ, _-_, _^_}
 use native.Mathlib.Omega.{arith}
+use lib.Pow.{pow-pos}
 use borrow.Author.Needs.{needs}
-use Rattle.laws.proofs.Bits.{one-shifted, shifted-pos}
+use Rattle.leaves.proofs.rounding.Indicator.{modulus-is}
 use Rattle.arith.proofs.packing.low_mask.Statement.{statement}
 use Rattle.arith.proofs.packing.low_mask.Tie as tie
 
-shl-result : tie.Need-shl-result
-shl-result c = search needs
+power : (c : tie.After-modulus) → c .modulus .result ≡ 2 ^ c .before .args .b
+power c = c .modulus .ensures ∙ modulus-is (c .before .args .b) (omega arith)
+
+modulus-requires : tie.Need-modulus-requires
+modulus-requires c κs = search needs
 
 sub-result : tie.Need-sub-result
-sub-result c = shifted-pos (c .args .b) (omega arith)
+sub-result c = omega (arith, power c, pow-pos (c .before .args .b))
 
 returns : tie.Need-returns
-returns c = ap (λ (x : ℕ). x - 1) (one-shifted (c .args .b) (omega arith))
+returns c = ap (λ (x : ℕ). x - 1) (power c)
 
 pub low-mask-spec : {M : Type 1} → statement M
-low-mask-spec = tie.close (tie.spec shl-result sub-result returns)
+low-mask-spec = tie.close (tie.spec modulus-requires sub-result returns)

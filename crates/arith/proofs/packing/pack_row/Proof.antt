@@ -25,16 +25,20 @@ Inv-loop b elements out₀ f w q₀ out q =
 abbrev μ-loop : tie.MeasureT-loop
 μ-loop b elements out₀ f w q₀ out q = length out₀ - q
 
+-- the call that the loop stands in
+abbrev start : tie.At-loop Inv-loop μ-loop → tie.Start Inv-loop μ-loop
+start l = l .before .before .before .before .before
+
 -- in a turn: word q is one of the row's, and starts inside it
 turn : (c : tie.In-loop Inv-loop μ-loop)
-    → let a = c .before .before .before .before .before .before .args in c .before .loop .q < wordsOf (a .b) (length (a .elements .now))
+    → let a = start (c .before) .args in c .before .loop .q < wordsOf (a .b) (length (a .elements .now))
 turn c = omega arith
 
 inside : (c : tie.In-loop Inv-loop μ-loop)
     → c .before .loop .q * c .before .before .before .factor .result
-    < length (c .before .before .before .before .before .before .args .elements .now)
+    < length (start (c .before) .args .elements .now)
 inside c =
-    starts-in (c .before .before .before .before .before .before .args .b)
+    starts-in (start (c .before) .args .b)
     (c .before .before .before .factor .ensures) (c .before .before .slot-bits .ensures) _ _ (turn c)
 
 factor-requires : tie.Need-factor-requires Inv-loop μ-loop
@@ -51,7 +55,7 @@ mul-start : tie.Need-mul-start Inv-loop μ-loop
 mul-start c = omega (arith, inside c)
 
 add-least : tie.Need-add-least Inv-loop μ-loop
-add-least c = omega (arith, inside c, factor-hi (c .before .before .before .before .before .before .args .b))
+add-least c = omega (arith, inside c, factor-hi (start (c .before) .args .b))
 
 least-requires : tie.Need-least-requires Inv-loop μ-loop
 least-requires c κs = search needs
@@ -71,7 +75,7 @@ part-pack-word-end c = omega (arith, inside (c .before))
 pack-word-requires : tie.Need-pack-word-requires Inv-loop μ-loop
 pack-word-requires c κs =
     let il = c .before .before in
-    let st = il .before .before .before .before .before .before in
+    let st = start (il .before) in
     lent-slots (st .args .b) (il .before .before .before .factor .ensures) (il .before .before .slot-bits .ensures) _ _
     (turn il) (c .before .least .ensures) (st .args .elements .now) refl (st .pre .0 .0) (st .pre .0 .1)
 
@@ -90,7 +94,7 @@ loop-less c = search needs
 loop-again : tie.Need-loop-again Inv-loop μ-loop
 loop-again c =
     let il = c .before .before .before in
-    let a = il .before .before .before .before .before .before .args in
+    let a = start (il .before) .args in
     let l = il .before .loop in
     let w : c .pack-word .result ≡ word (a .b) (a .elements .now) (l .q) =
     c .pack-word .ensures
@@ -106,7 +110,7 @@ same-length c = search needs
 returns : tie.Need-returns Inv-loop μ-loop
 unfolding packRow
 returns c =
-    let st = c .before .before .before .before .before .before in
+    let st = start (c .before) in
     let l = c .before .loop in
     let f = word (st .args .b) (st .args .elements .now) in
     let e : l .q ≡ wordsOf (st .args .b) (length (st .args .elements .now)) = omega arith in

@@ -8,10 +8,12 @@ use lib.ListN.{length}
 use borrow.Author.Needs.{needs}
 use Rattle.laws.specs.Refusals.{_⇒_, first}
 use Rattle.laws.proofs.Refusals.{kept, written}
-use Rattle.arith.specs.Packing.{shapeBad}
-use Rattle.arith.specs.Packing.{packedNumber, compressNumber}
+use Rattle.arith.specs.Packing.{packingShapeBad}
+use Rattle.arith.specs.Packing.{compressNumber}
+use Rattle.answers.specs.Packing.{packingNumber}
 use Rattle.arith.proofs.packing.Shapes.{shaped}
-use Rattle.arith.proofs.packing.Answers.{refusing, accepted}
+use Rattle.answers.proofs.Refusing.{packing-refusing}
+use Rattle.arith.proofs.packing.Answers.{accepted}
 use Rattle.arith.proofs.packing.Sizes.{words-le}
 use Rattle.arith.proofs.packing.row_wise_compress.Statement.{statement}
 use Rattle.arith.proofs.packing.row_wise_compress.Tie as tie
@@ -22,19 +24,22 @@ expected st =
     let a = st .args in
     compressNumber (a .b) (a .rows) (a .k) (length (a .words .now)) (length (a .out .now))
 
-number : (c : tie.After-refusal) → packedNumber (c .refusal .result) ≡ expected (c .before .before .before .before .before .before)
+abbrev start : tie.After-refusal → tie.Start
+start c = c .before .before .before .before .before .before
+
+number : (c : tie.After-refusal) → packingNumber (c .refusal .result) ≡ expected (start c)
 unfolding expected compressNumber
 number c =
-    let a = c .before .before .before .before .before .before .args in
+    let a = start c .args in
     let shape =
     c .before .before .shape-bad .ensures
-    ∙ ap (λ (n : ℕ). shapeBad (a .rows) (a .k) (a .k) n (length (a .words .now)) (length (a .out .now)))
+    ∙ ap (λ (n : ℕ). packingShapeBad (a .rows) (a .k) (a .k) n (length (a .words .now)) (length (a .out .now)))
     (c .before .before .before .words-of .ensures) in
     c .refusal .ensures
     ∙ ap₂ (λ (w s : Bool). first (w ⇒ 1 ∷ s ⇒ 2 ∷ [])) (c .before .width-bad .ensures) shape
 
-none : (c : tie.After-enum-told) → expected (c .before .before .before .before .before .before .before .before) ≡ 0
-none c = sym (number (c .before .before)) ∙ ap packedNumber (c .enum-told .given .1)
+none : (c : tie.After-enum-told) → expected (start (c .before .before)) ≡ 0
+none c = sym (number (c .before .before)) ∙ ap packingNumber (c .enum-told .given .1)
 
 words-of-requires : tie.Need-words-of-requires
 words-of-requires c κs = search needs
@@ -57,12 +62,12 @@ returns : tie.Need-returns
 unfolding expected
 returns c =
     let e = number (c .before) in
-    (e, kept _ _ _ (rw e at (refusing (c .before .refusal .result) (c .match .keys2))))
+    (e, kept _ _ _ (rw e at (packing-refusing (c .before .refusal .result) (c .match .keys2))))
 
 pack-rows-requires : tie.Need-pack-rows-requires
 unfolding expected compressNumber
 pack-rows-requires c κs =
-    let a = c .before .before .before .before .before .before .before .before .before .args in
+    let a = start (c .before .before .before) .args in
     let t = accepted (a .b) _ (none (c .before)) in
     let p = shaped _ _ _ _ _ _ (t .2) in
     ((t .0, t .1, p .k-most), (p .whole, p .roomy))

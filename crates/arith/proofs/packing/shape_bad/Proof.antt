@@ -7,7 +7,7 @@ use borrow.Author.Needs.{needs}
 use borrow.Author.Tests.{eq-eqb, ne-eqb}
 use Rattle.laws.specs.Refusals.{outside}
 use Rattle.laws.proofs.Refusals.{inside}
-use Rattle.arith.specs.Packing.{shapeBad}
+use Rattle.arith.specs.Packing.{packingShapeBad}
 use Rattle.arith.proofs.packing.shape_bad.Statement.{statement}
 use Rattle.arith.proofs.packing.shape_bad.Tie as tie
 
@@ -30,28 +30,28 @@ out-of-requires : tie.Need-out-of-requires
 out-of-requires c κs = search needs
 
 returns : tie.Need-returns
-unfolding shapeBad
+unfolding packingShapeBad
 returns c = simp (sym (c .before .out-of .ensures) ∙ c .if1 .taken)
 
 out-of-requires-2 : tie.Need-out-of-requires-2
 out-of-requires-2 c κs = search needs
 
 returns-2 : tie.Need-returns-2
-unfolding shapeBad
+unfolding packingShapeBad
 returns-2 c = simp (rows-in (c .before .before), sym (c .before .out-of2 .ensures) ∙ c .if2 .taken)
 
 mul-if3 : tie.Need-mul-if3
 mul-if3 c = omega (arith, bounded c (c .before .before .before .before .args .from) (c .before .before .before .before .pre .0))
 
 returns-3 : tie.Need-returns-3
-unfolding shapeBad
+unfolding packingShapeBad
 returns-3 c = simp (rows-in (c .before .before .before), k-in (c .before), ne-eqb _ _ (c .if3 .taken))
 
 mul-result : tie.Need-mul-result
 mul-result c = omega (arith, bounded (c .before) (c .before .before .before .before .before .args .to) (c .before .before .before .before .before .pre .1))
 
 returns-4 : tie.Need-returns-4
-unfolding shapeBad
+unfolding packingShapeBad
 returns-4 c = simp (rows-in (c .before .before .before), k-in (c .before), eq-eqb _ _ (c .if3 .left))
 
 pub shape-bad-spec : {M : Type 1} → statement M

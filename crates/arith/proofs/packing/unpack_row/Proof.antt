@@ -20,23 +20,27 @@ Inv-loop b words out₀ f w q₀ out q =
 abbrev μ-loop : tie.MeasureT-loop
 μ-loop b words out₀ f w q₀ out q = length words - q
 
+-- the call that the loop stands in
+abbrev start : tie.At-loop Inv-loop μ-loop → tie.Start Inv-loop μ-loop
+start l = l .before .before .before .before .before
+
 -- in a turn: word q is one of the row's, and its elements start inside the output
 turn : (c : tie.In-loop Inv-loop μ-loop)
-    → let a = c .before .before .before .before .before .before .args in c .before .loop .q < wordsOf (a .b) (length (a .out .now))
+    → let a = start (c .before) .args in c .before .loop .q < wordsOf (a .b) (length (a .out .now))
 turn c = omega arith
 
 inside : (c : tie.In-loop Inv-loop μ-loop)
     → c .before .loop .q * c .before .before .before .factor .result
-    < length (c .before .before .before .before .before .before .args .out .now)
+    < length (start (c .before) .args .out .now)
 inside c =
-    starts-in (c .before .before .before .before .before .before .args .b)
+    starts-in (start (c .before) .args .b)
     (c .before .before .before .factor .ensures) (c .before .before .slot-bits .ensures) _ _ (turn c)
 
 -- where they end, as `least` answers it
 end : (c : tie.After-least Inv-loop μ-loop)
     → let il = c .before in
     let n = il .before .loop .q * il .before .before .before .factor .result in
-    c .least .result ≡ min (n + il .before .before .before .factor .result) (length (il .before .before .before .before .before .before .args .out .now))
+    c .least .result ≡ min (n + il .before .before .before .factor .result) (length (start (il .before) .args .out .now))
 end c = c .least .ensures ∙ ap (min _) (c .before .before .loop .inv .1 .long)
 
 factor-requires : tie.Need-factor-requires Inv-loop μ-loop
@@ -53,7 +57,7 @@ mul-start : tie.Need-mul-start Inv-loop μ-loop
 mul-start c = omega (arith, inside c)
 
 add-least : tie.Need-add-least Inv-loop μ-loop
-add-least c = omega (arith, inside c, factor-hi (c .before .before .before .before .before .before .args .b))
+add-least c = omega (arith, inside c, factor-hi (start (c .before) .args .b))
 
 least-requires : tie.Need-least-requires Inv-loop μ-loop
 least-requires c κs = search needs
@@ -80,7 +84,7 @@ unpack-word-requires : tie.Need-unpack-word-requires Inv-loop μ-loop
 unpack-word-requires c κs =
     let al = c .before .before in
     let il = al .before in
-    let st = il .before .before .before .before .before .before in
+    let st = start (il .before) in
     lent-slots (st .args .b) (il .before .before .before .factor .ensures) (il .before .before .slot-bits .ensures) _ _
     (turn il) (end al) (il .before .loop .out) (il .before .loop .inv .1 .long) (st .pre .0 .0) (st .pre .0 .1)
 
@@ -94,7 +98,7 @@ loop-again : tie.Need-loop-again Inv-loop μ-loop
 loop-again c =
     let al = c .before .before .before .before .before in
     let il = al .before in
-    let a = il .before .before .before .before .before .before .args in
+    let a = start (il .before) .args in
     let l = il .before .loop in
     let u = c .before .before .unpack-word in
     let f = il .before .before .before .factor in
@@ -114,7 +118,7 @@ same-length c = search needs
 returns : tie.Need-returns Inv-loop μ-loop
 unfolding unpackRow
 returns c =
-    let st = c .before .before .before .before .before .before in
+    let st = start (c .before) in
     let a = st .args in
     let l = c .before .loop in
     let k = length (a .out .now) in

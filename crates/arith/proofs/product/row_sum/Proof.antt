@@ -19,16 +19,20 @@ Inv-loop b vector words f w acc₀ q₀ acc q =
 abbrev μ-loop : tie.MeasureT-loop
 μ-loop b vector words f w acc₀ q₀ acc q = length words - q
 
+-- the call that the loop stands in
+abbrev start : tie.At-loop Inv-loop μ-loop → tie.Start Inv-loop μ-loop
+start l = l .before .before .before .before .before
+
 -- in a turn: word q is one of the row's, and its elements start inside the vector
 turn : (c : tie.In-loop Inv-loop μ-loop)
-    → let a = c .before .before .before .before .before .before .args in c .before .loop .q < wordsOf (a .b) (length (a .vector .now))
+    → let a = start (c .before) .args in c .before .loop .q < wordsOf (a .b) (length (a .vector .now))
 turn c = omega arith
 
 inside : (c : tie.In-loop Inv-loop μ-loop)
     → c .before .loop .q * c .before .before .before .factor .result
-    < length (c .before .before .before .before .before .before .args .vector .now)
+    < length (start (c .before) .args .vector .now)
 inside c =
-    starts-in (c .before .before .before .before .before .before .args .b)
+    starts-in (start (c .before) .args .b)
     (c .before .before .before .factor .ensures) (c .before .before .slot-bits .ensures) _ _ (turn c)
 
 factor-requires : tie.Need-factor-requires Inv-loop μ-loop
@@ -45,7 +49,7 @@ mul-start : tie.Need-mul-start Inv-loop μ-loop
 mul-start c = omega (arith, inside c)
 
 add-least : tie.Need-add-least Inv-loop μ-loop
-add-least c = omega (arith, inside c, factor-hi (c .before .before .before .before .before .before .args .b))
+add-least c = omega (arith, inside c, factor-hi (start (c .before) .args .b))
 
 least-requires : tie.Need-least-requires Inv-loop μ-loop
 least-requires c κs = search needs
@@ -72,7 +76,7 @@ word-sum-requires : tie.Need-word-sum-requires Inv-loop μ-loop
 word-sum-requires c κs =
     let al = c .before .before in
     let il = al .before in
-    let st = il .before .before .before .before .before .before in
+    let st = start (il .before) in
     lent-slots (st .args .b) (il .before .before .before .factor .ensures) (il .before .before .slot-bits .ensures) _ _
     (turn il) (al .least .ensures) (st .args .vector .now) refl (st .pre .0 .0) (st .pre .0 .1)
 
@@ -89,7 +93,7 @@ loop-again : tie.Need-loop-again Inv-loop μ-loop
 loop-again c =
     let al = c .before .before .before .before in
     let il = al .before in
-    let a = il .before .before .before .before .before .before .args in
+    let a = start (il .before) .args in
     let l = il .before .loop in (
       omega arith,
       summed-more (a .b) (il .before .before .before .factor .ensures) (il .before .before .slot-bits .ensures) _ _
@@ -100,7 +104,7 @@ loop-again c =
 returns : tie.Need-returns Inv-loop μ-loop
 unfolding entryOf
 returns c =
-    let a = c .before .before .before .before .before .before .args in
+    let a = start (c .before) .args in
     let l = c .before .loop in
     let k = length (a .vector .now) in
     let e : l .q ≡ wordsOf (a .b) k = omega arith in

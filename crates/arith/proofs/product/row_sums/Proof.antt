@@ -18,14 +18,19 @@ Inv-loop b vector rows words out₀ width j₀ out j =
 abbrev μ-loop : tie.MeasureT-loop
 μ-loop b vector rows words out₀ width j₀ out j = rows - j
 
+-- the call, from where the width is known
+abbrev start : tie.After-words-of Inv-loop μ-loop → tie.Start Inv-loop μ-loop
+start k = k .before .before .before .before
+
 -- in a turn: row j lies inside the packed words
 row-in : (c : tie.In-loop Inv-loop μ-loop)
     → let n = c .before .before .words-of .result in
-    c .before .loop .j * n + n ≤ length (c .before .before .before .before .before .before .args .words .now)
+    c .before .loop .j * n + n ≤ length (start (c .before .before) .args .words .now)
 row-in c =
     let aw = c .before .before in
-    let st = aw .before .before .before .before in
-    let lent : st .args .rows * aw .words-of .result ≡ length (st .args .words .now) = rw (aw .words-of .ensures) (sym (st .pre .1 .0)) in
+    let st = start aw in
+    let lent : st .args .rows * aw .words-of .result ≡ length (st .args .words .now) =
+    ap (λ (n : ℕ). st .args .rows * n) (aw .words-of .ensures) ∙ sym (st .pre .1 .0) in
     omega (arith, room (c .before .loop .j) (st .args .rows) (aw .words-of .result) (c .loop-test .taken))
 
 words-of-requires : tie.Need-words-of-requires Inv-loop μ-loop
@@ -57,7 +62,7 @@ row-sum-requires : tie.Need-row-sum-requires Inv-loop μ-loop
 row-sum-requires c κs =
     let il = c .before in
     let aw = il .before .before in
-    let st = aw .before .before .before .before in
+    let st = start aw in
     let n = aw .words-of .result in
     let l = il .before .loop in
     let lent =
@@ -82,7 +87,7 @@ loop-again : tie.Need-loop-again Inv-loop μ-loop
 loop-again c =
     let il = c .before .before in
     let aw = il .before .before in
-    let a = aw .before .before .before .before .args in
+    let a = start aw .args in
     let n = aw .words-of .result in
     let l = il .before .loop in
     let e : c .row-sum .result ≡ entryOf (a .b) (a .vector .now) (row n (a .words .now) (l .j)) =
@@ -98,7 +103,7 @@ returns : tie.Need-returns Inv-loop μ-loop
 unfolding product
 returns c =
     let aw = c .before .before in
-    let a = aw .before .before .before .before .args in
+    let a = start aw .args in
     let e : c .before .loop .j ≡ a .rows = omega arith in
     c .before .loop .inv .1 .laid-is
     ∙ ap₂ (λ (j n : ℕ). laid (build j (λ i. entryOf (a .b) (a .vector .now) (row n (a .words .now) i))) (a .out .now)) e (aw .words-of .ensures)

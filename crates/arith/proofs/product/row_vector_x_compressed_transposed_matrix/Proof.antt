@@ -1,21 +1,21 @@
 -- The refusals in 01's order, and then the sums.
 use mathlib.Core.Path.{_≡_, sym, ap, ap₂, _∙_}
-use mathlib.Core.Bool.{Bool}
+use mathlib.Core.Bool.{Bool, not}
 use mathlib.Core.List.{[], _∷_}
 use Prim.Native.Nat.{ℕ, _*_}
 use native.Mathlib.Omega.{arith}
 use lib.ListN.{length}
-use borrow.Author.Needs.{needs}
-use Rattle.laws.specs.Refusals.{_⇒_, first}
-use Rattle.laws.proofs.Refusals.{kept, written}
-use borrow.Author.Tests.{eqb-true, not-false}
 use lib.Dec.{eqb}
-use mathlib.Core.Bool.{not}
-use Rattle.laws.proofs.Refusals.{neither}
-use Rattle.arith.specs.Packing.{wordsOf, packedNumber}
-use Rattle.arith.specs.Product.{operandsBad, productNumber}
+use borrow.Author.Needs.{needs}
+use borrow.Author.Tests.{eqb-true, not-false}
+use Rattle.laws.specs.Refusals.{_⇒_, first}
+use Rattle.laws.proofs.Refusals.{neither, kept, written}
+use Rattle.arith.specs.Packing.{wordsOf}
+use Rattle.answers.specs.Packing.{packingNumber}
+use Rattle.arith.specs.Product.{operandsBad, factors, productNumber}
 use Rattle.arith.proofs.packing.Shapes.{shaped}
-use Rattle.arith.proofs.packing.Answers.{refusing, accepted}
+use Rattle.answers.proofs.Refusing.{packing-refusing}
+use Rattle.arith.proofs.packing.Answers.{accepted}
 use Rattle.arith.proofs.packing.Sizes.{words-le}
 use Rattle.arith.proofs.product.row_vector_x_compressed_transposed_matrix.Statement.{statement}
 use Rattle.arith.proofs.product.row_vector_x_compressed_transposed_matrix.Tie as tie
@@ -24,12 +24,15 @@ use Rattle.arith.proofs.product.row_vector_x_compressed_transposed_matr
 expected : tie.Start → ℕ
 expected st =
     let a = st .args in
-    productNumber (a .b) (a .rows) (a .k) (length (a .vector .now)) (length (a .words .now)) (length (a .out .now))
+    productNumber (factors (a .b) (a .rows) (a .k) (a .vector .now) (a .words .now) (a .out .now))
 
-number : (c : tie.After-refusal) → packedNumber (c .refusal .result) ≡ expected (c .before .before .before .before .before .before .before)
+abbrev start : tie.After-refusal → tie.Start
+start c = c .before .before .before .before .before .before .before
+
+number : (c : tie.After-refusal) → packingNumber (c .refusal .result) ≡ expected (start c)
 unfolding expected productNumber
 number c =
-    let a = c .before .before .before .before .before .before .before .args in
+    let a = start c .args in
     let shape =
     c .before .before .operands-bad .ensures
     ∙ ap (λ (n : ℕ). operandsBad (a .rows) (a .k) n (length (a .vector .now)) (length (a .words .now)) (length (a .out .now)))
@@ -37,8 +40,8 @@ number c =
     c .refusal .ensures
     ∙ ap₂ (λ (w s : Bool). first (w ⇒ 1 ∷ s ⇒ 2 ∷ [])) (c .before .width-bad .ensures) shape
 
-none : (c : tie.After-enum-told) → expected (c .before .before .before .before .before .before .before .before .before) ≡ 0
-none c = sym (number (c .before .before)) ∙ ap packedNumber (c .enum-told .given .1)
+none : (c : tie.After-enum-told) → expected (start (c .before .before)) ≡ 0
+none c = sym (number (c .before .before)) ∙ ap packingNumber (c .enum-told .given .1)
 
 words-of-requires : tie.Need-words-of-requires
 words-of-requires c κs = search needs
@@ -61,12 +64,12 @@ returns : tie.Need-returns
 unfolding expected
 returns c =
     let e = number (c .before) in
-    (e, kept _ _ _ (rw e at (refusing (c .before .refusal .result) (c .match .keys2))))
+    (e, kept _ _ _ (rw e at (packing-refusing (c .before .refusal .result) (c .match .keys2))))
 
 row-sums-requires : tie.Need-row-sums-requires
 unfolding expected productNumber operandsBad
 row-sums-requires c κs =
-    let a = c .before .before .before .before .before .before .before .before .before .before .args in
+    let a = start (c .before .before .before) .args in
     let t = accepted (a .b) _ (none (c .before)) in
     let q = neither (not (eqb (length (a .vector .now)) (a .k))) _ (t .2) in
     let k : length (a .vector .now) ≡ a .k = eqb-true _ _ (not-false _ (q .0)) in

@@ -21,6 +21,10 @@ Inv-loop interval words out₀ greatest put₀ read₀ out put read =
 abbrev μ-loop : tie.MeasureT-loop
 μ-loop interval words out₀ greatest put₀ read₀ out put read = length words - read
 
+-- the call that the loop stands in
+abbrev start : tie.At-loop Inv-loop μ-loop → tie.Start Inv-loop μ-loop
+start l = l .before .before .before
+
 mul-greatest : tie.Need-mul-greatest Inv-loop μ-loop
 mul-greatest c = search needs
 
@@ -41,7 +45,7 @@ value-of-requires c κs = search needs
 roomy : (c : tie.Then1 Inv-loop μ-loop)
     → c .before .before .before .loop .put < length (c .before .before .before .loop .out)
 roomy c =
-    let st = c .before .before .before .before .before .before in
+    let st = start (c .before .before .before) in
     let a = st .args in
     let l = c .before .before .before .loop in
     omega (
@@ -63,11 +67,11 @@ add-put c = omega (arith, roomy (c .before))
 
 -- an accepted word gives one value more, a skipped one leaves all as it was
 turn : (c : tie.Joined1 Inv-loop μ-loop)
-    → let a = c .before .before .before .before .before .before .args in
+    → let a = start (c .before .before .before) .args in
     let xs = given (a .interval) (take (c .before .before .before .loop .read + 1) (a .words .now)) in
     (c .if1 .put ≡ length xs) × Filled xs (a .out .now) (c .if1 .out)
 turn c =
-    let a = c .before .before .before .before .before .before .args in
+    let a = start (c .before .before .before) .args in
     let l = c .before .before .before .loop in
     let w = a .words .now in
     let inside : l .read < length w = omega arith in
@@ -97,7 +101,7 @@ same-length c = search needs
 
 returns : tie.Need-returns Inv-loop μ-loop
 returns c =
-    let st = c .before .before .before .before in
+    let st = start (c .before) in
     let l = c .before .loop in
     let e = take-all (l .read) (st .args .words .now) (omega arith) in
     filled-whole (rw e at (l .inv .2)) (omega (arith, st .pre .1))

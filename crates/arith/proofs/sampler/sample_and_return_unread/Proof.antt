@@ -5,10 +5,18 @@ use native.Mathlib.Omega.{arith}
 use lib.ListN.{length, drop, length-drop}
 use lib.Seq.{take-all}
 use borrow.Author.Needs.{needs}
-use Rattle.arith.specs.Sampler.{sampledRead}
-use Rattle.arith.proofs.sampler.Answers.{refusing, unread, read-within}
+use Rattle.answers.specs.Sampler.{samplingRead}
+use Rattle.answers.proofs.Refusing.{sampling-refusing}
+use Rattle.arith.proofs.sampler.Answers.{unread, read-within}
 use Rattle.arith.proofs.sampler.sample_and_return_unread.Statement.{statement}
 use Rattle.arith.proofs.sampler.sample_and_return_unread.Tie as tie
+
+-- the sample that an answer was read off, and the call that took it
+abbrev sampled : tie.After-known-told → tie.After-sample-from-uniform-ternary-dist
+sampled c = c .before .before .before .before .before
+
+abbrev start : tie.After-sample-from-uniform-ternary-dist → tie.Start
+start k = k .before .before .before .before
 
 sample-from-uniform-ternary-dist-requires : tie.Need-sample-from-uniform-ternary-dist-requires
 sample-from-uniform-ternary-dist-requires c κs = search needs
@@ -21,17 +29,17 @@ same-length c = search needs
 
 returns : tie.Need-returns
 returns c =
-    let a = c .before .before .before .before .before .before .before .args in
-    let p = c .before .before .before .sample-from-uniform-ternary-dist in
-    let e = unread (a .interval) (length (a .out .now)) (a .words .now) (rw (p .ensures .0) at (refusing (p .result) (c .match .keys2))) in
+    let k = c .before .before .before in
+    let a = start k .args in
+    let p = k .sample-from-uniform-ternary-dist in
+    let e = unread (a .interval) (length (a .out .now)) (a .words .now) (rw (p .ensures .0) at (sampling-refusing (p .result) (c .match .keys2))) in
     (ap (λ (n : ℕ). drop n (a .words .now)) e, p .ensures .1 .1)
 
 -- the tail starts inside the words
-inside : (c : tie.After-known-told)
-    → c .before .read .given .0 .0 ≤ length (c .before .before .before .before .before .before .before .before .before .args .words .now)
+inside : (c : tie.After-known-told) → c .before .read .given .0 .0 ≤ length (start (sampled c) .args .words .now)
 inside c =
-    let a = c .before .before .before .before .before .before .before .before .before .args in
-    let p = c .before .before .before .before .before .sample-from-uniform-ternary-dist .ensures in
+    let a = start (sampled c) .args in
+    let p = sampled c .sample-from-uniform-ternary-dist .ensures in
     read-within (a .interval) (length (a .out .now)) (a .words .now) _ _ (c .before .read .given .1) (p .0) (p .1 .0)
 
 mul-result : tie.Need-mul-result
@@ -51,10 +59,11 @@ same-length-2 c = search needs
 
 returns-2 : tie.Need-returns-2
 returns-2 c =
-    let w = c .before .before .before .before .before .before .before .before .before .before .args .words .now in
-    let p = c .before .before .before .before .before .before .sample-from-uniform-ternary-dist .ensures in
+    let k = sampled (c .before) in
+    let w = start k .args .words .now in
+    let p = k .sample-from-uniform-ternary-dist .ensures in
     let r = c .before .before .read .given in
-    let e = ap sampledRead (sym (r .1)) ∙ p .1 .0 in
+    let e = ap samplingRead (sym (r .1)) ∙ p .1 .0 in
     (take-all (length w - r .0 .0) (drop (r .0 .0) w) (omega (arith, length-drop (r .0 .0) w)) ∙ ap (λ (n : ℕ). drop n w) e, p .1 .1)
 
 pub sample-and-return-unread-spec : {M : Type 1} → statement M

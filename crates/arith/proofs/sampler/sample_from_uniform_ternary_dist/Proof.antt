@@ -9,20 +9,24 @@ use borrow.Author.Needs.{needs}
 use Rattle.laws.proofs.Refusals.{kept, written}
 use Rattle.arith.specs.Sampler.{sampleNumber, given, shortest, tooFew}
 use Rattle.arith.proofs.sampler.Shortest.{shortest-exact, read-given}
-use Rattle.arith.proofs.sampler.Answers.{refusing, success, reads, read-within, allowed}
+use Rattle.answers.proofs.Refusing.{sampling-refusing}
+use Rattle.arith.proofs.sampler.Answers.{success, reads, read-within, allowed}
 use Rattle.arith.proofs.sampler.sample_from_uniform_ternary_dist.Statement.{statement}
 use Rattle.arith.proofs.sampler.sample_from_uniform_ternary_dist.Tie as tie
 
 -- success: the number is 0, and the words that are lent on are the shortest start, which gives what the output takes
 module _ (c : tie.After-known-told) where
+  abbrev start : tie.Start
+  start = c .before .before .before .before .before .before
+
   abbrev interval : ℕ
-  interval = c .before .before .before .before .before .before .args .interval
+  interval = start .args .interval
 
   abbrev words : List ℕ
-  words = c .before .before .before .before .before .before .args .words .now
+  words = start .args .words .now
 
   abbrev wanted : ℕ
-  wanted = length (c .before .before .before .before .before .before .args .out .now)
+  wanted = length (start .args .out .now)
 
   none : sampleNumber interval wanted words ≡ 0
   none = success interval wanted words _ _ (c .before .answer .given .1) (c .before .before .before .words-to-read .ensures .0)
@@ -52,7 +56,7 @@ enum-known-answer c = search needs
 returns : tie.Need-returns
 returns c =
     let e = c .before .words-to-read .ensures .0 in
-    (e, (c .before .words-to-read .ensures .1, kept _ _ _ (rw e at (refusing (c .before .words-to-read .result) (c .match .keys2)))))
+    (e, (c .before .words-to-read .ensures .1, kept _ _ _ (rw e at (sampling-refusing (c .before .words-to-read .result) (c .match .keys2)))))
 
 slice-aggregate-fill : tie.Need-slice-aggregate-fill
 slice-aggregate-fill c = sym (length-take-le _ (words (c .before)) (within (c .before)))

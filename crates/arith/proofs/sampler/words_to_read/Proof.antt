@@ -6,7 +6,8 @@ use borrow.Author.Needs.{needs}
 use borrow.Author.Tests.{lt-ltb, le-ltb}
 use Rattle.laws.specs.Refusals.{after}
 use Rattle.laws.proofs.Refusals.{inside}
-use Rattle.arith.specs.Sampler.{sampledNumber, sampleNumber, shortest}
+use Rattle.arith.specs.Sampler.{sampleNumber, shortest}
+use Rattle.answers.specs.Sampler.{samplingNumber}
 use Rattle.arith.proofs.sampler.Answers.{unread}
 use Rattle.arith.proofs.sampler.words_to_read.Statement.{statement}
 use Rattle.arith.proofs.sampler.words_to_read.Tie as tie
@@ -36,7 +37,7 @@ returns-3 : tie.Need-returns-3
 unfolding sampleNumber
 returns-3 c =
     let a = c .before .before .before .before .before .args in
-    let e : sampledNumber (c .count-read .result) ≡ sampleNumber (a .interval) (a .wanted) (a .words .now) =
+    let e : samplingNumber (c .count-read .result) ≡ sampleNumber (a .interval) (a .wanted) (a .words .now) =
     simp (c .count-read .ensures .0, le-ltb _ _ (c .before .before .before .if1 .left), sym (c .before .before .out-of .ensures), c .before .if2 .left) in
     (e, c .count-read .ensures .1 ∙ ap (λ (n : ℕ). after n (shortest (a .interval) (a .wanted) (a .words .now)) 0) e)
 

@@ -29,9 +29,17 @@ Inv-loop b r columns count rows masks positions targets words₀ sums₀ start i
 abbrev μ-loop : tie.MeasureT-loop
 μ-loop b r columns count rows masks positions targets words₀ sums₀ start i₀ words sums i = count - i
 
+-- the call, from where the words are zeros
+abbrev start : tie.After-slice-known2 Inv-loop μ-loop → tie.Start Inv-loop μ-loop
+start c = c .before .before .before .before .before .before .before .before .before
+
+-- the turn's positions, from where the key's row is to be written
+abbrev its-places : tie.After-place-key-arg3 Inv-loop μ-loop → tie.After-places Inv-loop μ-loop
+its-places c = c .before .before .before .before .before
+
 -- in a turn: the key is fine, and its row lies inside the rows
 abbrev first : tie.In-loop Inv-loop μ-loop → tie.Start Inv-loop μ-loop
-first c = c .before .before .before .before .before .before .before .before .before .before .before
+first c = start (c .before .before)
 
 module _ (c : tie.In-loop Inv-loop μ-loop) where
   good : let a = first c .args in
@@ -60,7 +68,7 @@ zero-requires c κs = search needs
 loop-holds : tie.Need-loop-holds Inv-loop μ-loop
 unfolding database
 loop-holds c =
-    let blank = c .before .before .zero .ensures ∙ ap (λ (n : ℕ). replicate n 0) (c .before .before .before .before .before .before .before .before .before .pre .0 .2) in
+    let blank = c .before .before .zero .ensures ∙ ap (λ (n : ℕ). replicate n 0) (start c .pre .0 .2) in
     (search needs, length-replicate {A = ℕ} 512 0, search needs, blank)
 
 mul-from : tie.Need-mul-from Inv-loop μ-loop
@@ -118,16 +126,19 @@ part-sums-end c = search needs
 
 place-key-requires : tie.Need-place-key-requires Inv-loop μ-loop
 place-key-requires c κs =
-    let pl = c .before .before .before .before .before in
+    let pl = its-places c in
     let il = pl .before in
     let l = il .before .loop in
     let st = first il in
     let a = st .args in
     let size : length (pl .places .result) ≡ 4 = omega arith in
-    let four : length (row 4 (a .positions .now) (l .i)) ≡ 4 = rw (← pl .places .ensures) size in
-    let placed : positionsBad (a .r) (pl .places .result) ≡ false = rw (pl .places .ensures) (good il .placed) in
+    let four : length (row 4 (a .positions .now) (l .i)) ≡ 4 = ap length (sym (pl .places .ensures)) ∙ size in
+    let placed : positionsBad (a .r) (pl .places .result) ≡ false =
+    ap (positionsBad (a .r)) (pl .places .ensures) ∙ good il .placed in
     let fits : (s : ℕ) → s < 4 → getD (pl .places .result) s 0 * a .columns + a .columns ≤ length (l .words) =
-    λ s h. omega (arith, room (getD (pl .places .result) s 0) (a .r) (a .columns) (below (a .r) (pl .places .result) placed s (omega arith))) in (
+    λ s h.
+    let low = below (a .r) (pl .places .result) placed s (omega arith) in
+    omega (arith, room (getD (pl .places .result) s 0) (a .r) (a .columns) low) in (
       (search needs, omega (arith, good il .among)),
       ((lent il (a .rows .now) (st .pre .1 .0 .0), lent il (a .masks .now) (st .pre .1 .0 .1), search needs), fits),
     )
@@ -140,7 +151,8 @@ loop-less c = search needs
 
 loop-again : tie.Need-loop-again Inv-loop μ-loop
 loop-again c =
-    let pl = c .before .before .before .before .before .before .before .before .before in
+    let pk = c .before .before .before in
+    let pl = its-places (pk .before) in
     let il = pl .before in
     let l = il .before .loop in
     let a = first il .args in
@@ -149,11 +161,11 @@ loop-again c =
     let word : (m : List ℕ) (j : ℕ) → j < a .columns → getD (mine m) j 0 ≡ getD m (l .i * a .columns + j) 0 =
     λ m j h. ap (λ xs. getD xs j 0) (row-lent (a .columns) (l .i) m) ∙ getD-part (l .i * a .columns) (a .columns) m j 0 h in (
       omega arith,
-      same-len-mid 0 (a .columns - 0) (l .sums) (c .before .before .before .place-key .last .1 .1 .1 .1 .1 .1 .0) (search needs) ∙ l .inv .1,
+      same-len-mid 0 (a .columns - 0) (l .sums) (pk .place-key .last .1 .1 .1 .1 .1 .1 .0) (search needs) ∙ l .inv .1,
       search needs,
-      c .before .before .before .place-key .ensures
-          ∙ key-more (a .b) (a .r) (a .columns) ks (l .i) (l .words) (pl .places .result) (mine (a .rows .now)) (mine (a .masks .now))
-          (l .inv .3) (pl .places .ensures) (word (a .rows .now)) (word (a .masks .now)),
+      pk .place-key .ensures
+          ∙ key-more (a .b) (a .r) (a .columns) ks (l .i) (l .words) (pl .places .result) (mine (a .rows .now))
+          (mine (a .masks .now)) (l .inv .3) (pl .places .ensures) (word (a .rows .now)) (word (a .masks .now)),
     )
 
 same-length : tie.Need-same-length Inv-loop μ-loop
@@ -162,7 +174,7 @@ same-length c = search needs
 returns : tie.Need-returns Inv-loop μ-loop
 returns c =
     let l = c .before .loop in
-    let e : l .i ≡ c .before .before .before .before .before .before .before .before .before .before .before .args .count = omega arith in
+    let e : l .i ≡ start (c .before .before) .args .count = omega arith in
     rw e at (l .inv .3)
 
 pub place-keys-spec : {M : Type 1} → statement M

@@ -22,6 +22,9 @@ Inv-loop b row sums masks target₀ j₀ target j =
 abbrev μ-loop : tie.MeasureT-loop
 μ-loop b row sums masks target₀ j₀ target j = length target₀ - j
 
+abbrev start : tie.At-loop Inv-loop μ-loop → tie.Start Inv-loop μ-loop
+start c = c .before .before .before .before .before
+
 loop-holds : tie.Need-loop-holds Inv-loop μ-loop
 unfolding build
 loop-holds c = (search needs, filled-none _)
@@ -65,7 +68,7 @@ loop-less c = search needs
 loop-again : tie.Need-loop-again Inv-loop μ-loop
 loop-again c =
     let il = c .before .before .before .before .before in
-    let a = il .before .before .before .before .before .before .args in
+    let a = start (il .before) .args in
     let l = il .before .loop in
     let f : ℕ → ℕ = word (a .b) (a .row .now) (a .sums .now) (a .masks .now) in
     let e : c .subtract2 .result ≡ f (l .j) =
@@ -77,7 +80,7 @@ same-length c = search needs
 
 returns : tie.Need-returns Inv-loop μ-loop
 returns c =
-    let a = c .before .before .before .before .before .before .args in
+    let a = start (c .before) .args in
     let l = c .before .loop in
     let f : ℕ → ℕ = word (a .b) (a .row .now) (a .sums .now) (a .masks .now) in
     let e : l .j ≡ length (a .target .now) = omega arith in

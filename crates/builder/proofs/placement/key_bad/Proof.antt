@@ -15,7 +15,8 @@ use Rattle.builder.proofs.placement.key_bad.Tie as tie
 placed : (c : tie.Else1) → positionsBad (c .before .before .before .args .r) (c .before .before .before .args .t2) ≡ false
 placed c = sym (c .before .positions-bad .ensures) ∙ c .if1 .left
 
-few : (c : tie.Else2) → leb (length (c .before .before .before .before .args .t2)) (c .before .before .before .before .args .index) ≡ false
+few : (c : tie.Else2)
+    → let a = c .before .before .before .before .args in leb (length (a .t2)) (a .index) ≡ false
 few c =
     let a = c .before .before .before .before .args in
     lt-leb (length (a .t2)) (a .index) (omega arith)

@@ -31,22 +31,25 @@ Inv-loop r count positions targets marks₀ i₀ marks i =
 abbrev μ-loop : tie.MeasureT-loop
 μ-loop r count positions targets marks₀ i₀ marks i = count - i
 
+abbrev start : tie.At-loop Inv-loop μ-loop → tie.Start Inv-loop μ-loop
+start c = c .before .before .before
+
 -- what the key's test says
 verdict : (c : tie.After-key-bad Inv-loop μ-loop)
-    → let l = c .before .before .before .before .before .loop in
-    let a = c .before .before .before .before .before .before .before .before .args in
-    c .key-bad .result ≡ keyBad (a .r) (keys (a .positions .now) (a .targets .now)) (l .i)
+    → let turn = c .before .before .before .before .before in
+    let a = start turn .args in
+    c .key-bad .result ≡ keyBad (a .r) (keys (a .positions .now) (a .targets .now)) (turn .loop .i)
 verdict c =
     let pl = c .before .before .before in
     let l = pl .before .before .loop in
-    let a = pl .before .before .before .before .before .args in
+    let a = start (pl .before .before) .args in
     c .key-bad .ensures ∙ judged (a .r) (keys (a .positions .now) (a .targets .now)) (l .i) (l .marks) _ (pl .places .ensures) (l .inv .2)
 
 loop-holds : tie.Need-loop-holds Inv-loop μ-loop
 loop-holds c = (search needs, length-replicate 4096 false, seen-none _ 4096, some-none _)
 
 places-requires : tie.Need-places-requires Inv-loop μ-loop
-places-requires c κs = omega (arith, room (c .before .loop .i) (c .before .before .before .before .args .count) 4 (c .loop-test .taken))
+places-requires c κs = omega (arith, room (c .before .loop .i) (start (c .before) .args .count) 4 (c .loop-test .taken))
 
 mul-key-bad : tie.Need-mul-key-bad Inv-loop μ-loop
 mul-key-bad c = search needs
@@ -64,7 +67,7 @@ returns : tie.Need-returns Inv-loop μ-loop
 unfolding placementBad
 returns c =
     let il = c .before .before .before .before .before in
-    let a = il .before .before .before .before .args in
+    let a = start (il .before) .args in
     sym (some-holds (keyBad (a .r) (keys (a .positions .now) (a .targets .now))) (a .count) (il .before .loop .i)
     (il .loop-test .taken) (sym (verdict (c .before)) ∙ c .if1 .taken))
 
@@ -76,7 +79,7 @@ mark-requires c κs s h =
     let kb = c .before .before in
     let pl = kb .before .before .before in
     let il = pl .before in
-    let a = il .before .before .before .before .args in
+    let a = start (il .before) .args in
     let ks = keys (a .positions .now) (a .targets .now) in
     let good = fine (a .r) ks (il .before .loop .i) (sym (verdict kb) ∙ c .before .if1 .left) .placed in
     let size : length (pl .places .result) ≡ 4 = omega arith in
@@ -94,7 +97,7 @@ loop-again c =
     let pl = kb .before .before .before in
     let il = pl .before in
     let l = il .before .loop in
-    let a = il .before .before .before .before .args in
+    let a = start (il .before) .args in
     let ks = keys (a .positions .now) (a .targets .now) in
     let e : (q : ℕ) → getD (c .before .mark .last .1 .0) q false ≡ (getD (l .marks) q false || among (ks .places (l .i)) q) =
     λ q. rw (← pl .places .ensures) (c .before .mark .ensures q) in (
@@ -107,7 +110,7 @@ loop-again c =
 returns-2 : tie.Need-returns-2 Inv-loop μ-loop
 unfolding placementBad
 returns-2 c =
-    let a = c .before .before .before .before .args in
+    let a = start (c .before) .args in
     let e : c .before .loop .i ≡ a .count = omega arith in
     sym (rw e at (c .before .loop .inv .3))
 

@@ -42,7 +42,9 @@ shared-slice-read-t18 : tie.Need-shared-slice-read-t18
 shared-slice-read-t18 c = search needs
 
 returns : tie.Need-returns
-returns c = four (c .before .before .before .before .args .positions .now) (c .before .before .before .before .args .i * 4) (c .before .before .before .before .pre)
+returns c =
+    let st = c .before .before .before .before in
+    four (st .args .positions .now) (st .args .i * 4) (st .pre)
 
 pub places-spec : {M : Type 1} → statement M
 places-spec =

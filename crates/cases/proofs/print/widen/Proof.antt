@@ -1,6 +1,6 @@
 -- The output keeps its length.
 use mathlib.Core.Path.{_≡_}
-use Prim.Native.Nat.{_-_, _≤_}
+use Prim.Native.Nat.{_-_}
 use native.Mathlib.Omega.{arith}
 use lib.ListN.{length}
 use borrow.Author.Needs.{needs}
@@ -8,7 +8,7 @@ use Rattle.cases.proofs.print.widen.Statement.{statement}
 use Rattle.cases.proofs.print.widen.Tie as tie
 
 abbrev Inv-loop : tie.InvT-loop
-Inv-loop xs out₀ i₀ out i = (i ≤ length xs) × (length out ≡ length out₀)
+Inv-loop xs out₀ i₀ out i = (length out ≡ length out₀)
 
 abbrev μ-loop : tie.MeasureT-loop
 μ-loop xs out₀ i₀ out i = length xs - i
@@ -41,7 +41,7 @@ loop-less : tie.Need-loop-less Inv-loop μ-loop
 loop-less c = search needs
 
 loop-again : tie.Need-loop-again Inv-loop μ-loop
-loop-again c = (omega arith, search needs)
+loop-again c = search needs
 
 same-length-2 : tie.Need-same-length-2 Inv-loop μ-loop
 same-length-2 c = search needs

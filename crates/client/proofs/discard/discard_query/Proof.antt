@@ -5,8 +5,10 @@ use lib.ListN.{length}
 use borrow.Author.Needs.{needs}
 use Rattle.laws.proofs.Refusals.{kept, written}
 use Rattle.pending.proofs.table.Answers.{closed-is, wiped-is}
-use Rattle.client.specs.Discard.{discardingNumber, discardNumber}
-use Rattle.client.proofs.discard.Answers.{refusing, accepted, can-close}
+use Rattle.client.specs.Discard.{discardNumber}
+use Rattle.client_answers.specs.Discard.{discardingNumber}
+use Rattle.client_answers.proofs.Refusing.{discarding-refusing}
+use Rattle.client.proofs.discard.Answers.{accepted, can-close}
 use Rattle.client.proofs.discard.discard_query.Statement.{statement}
 use Rattle.client.proofs.discard.discard_query.Tie as tie
 
@@ -30,7 +32,7 @@ returns : tie.Need-returns
 unfolding expected
 returns c =
     let e = c .before .refusal .ensures in
-    let some = rw e at (refusing (c .before .refusal .result) (c .match .keys2)) in
+    let some = rw e at (discarding-refusing (c .before .refusal .result) (c .match .keys2)) in
     (e, (kept _ _ _ some, kept _ _ _ some))
 
 close-requires : tie.Need-close-requires

@@ -10,18 +10,30 @@ use Rattle.pending.proofs.table.Slots.{none-free, some-free}
 use Rattle.client.proofs.open.place_refusal.Statement.{statement}
 use Rattle.client.proofs.open.place_refusal.Tie as tie
 
+-- the call's start, past each test
+abbrev start1 : tie.Else1 → tie.Start
+start1 c = c .before .before
+
+abbrev start2 : tie.Else2 → tie.Start
+start2 c = start1 (c .before .before)
+
+abbrev start3 : tie.Else3 → tie.Start
+start3 c = start2 (c .before .before)
+
+abbrev start4 : tie.Else4 → tie.Start
+start4 c = start3 (c .before .before)
+
 -- what each test that was passed says
-interval-in : (c : tie.Else1) → outside 1 1431655765 (c .before .before .args .interval) ≡ false
+interval-in : (c : tie.Else1) → outside 1 1431655765 (start1 c .args .interval) ≡ false
 interval-in c = sym (c .before .out-of .ensures) ∙ c .if1 .left
 
-places-in : (c : tie.Else2) → let a = c .before .before .before .before .args in positionsBad (a .r) (a .positions) ≡ false
+places-in : (c : tie.Else2) → positionsBad (start2 c .args .r) (start2 c .args .positions) ≡ false
 places-in c = sym (c .before .positions-bad .ensures) ∙ c .if2 .left
 
-not-pending : (c : tie.Else3)
-    → let a = c .before .before .before .before .before .before .args in digestPending (a .table) (a .digest) ≡ false
+not-pending : (c : tie.Else3) → digestPending (start3 c .args .table) (start3 c .args .digest) ≡ false
 not-pending c = sym (c .before .digest-pending .ensures) ∙ c .if3 .left
 
-not-full : (c : tie.Else4) → full (c .before .before .before .before .before .before .before .before .args .table) ≡ false
+not-full : (c : tie.Else4) → full (start4 c .args .table) ≡ false
 not-full c = some-free _ (λ e. c .if4 .left (c .before .slot-of .ensures ∙ e))
 
 out-of-requires : tie.Need-out-of-requires
@@ -51,8 +63,8 @@ returns-4 : tie.Need-returns-4
 returns-4 c =
     let three = c .before .before in
     let two = three .before .before in
-    let t = three .before .before .before .before .before .before .args .table in (
-      simp (interval-in (two .before .before), places-in two, not-pending three, none-free t (sym (c .before .slot-of .ensures) ∙ c .if4 .taken)),
+    let filled = none-free (start3 three .args .table) (sym (c .before .slot-of .ensures) ∙ c .if4 .taken) in (
+      simp (interval-in (two .before .before), places-in two, not-pending three, filled),
       (refl, refl),
     )
 

@@ -7,14 +7,16 @@ use native.Mathlib.Omega.{arith}
 use borrow.Author.Needs.{needs}
 use Rattle.laws.specs.Refusals.{Test, _⇒_, first}
 use Rattle.laws.proofs.Refusals.{kept, refused-before, all-clear, clear-before}
-use Rattle.arith.specs.Sampler.{sampledNumber}
-use Rattle.arith.proofs.sampler.Answers as samples
+use Rattle.answers.specs.Sampler.{samplingNumber}
+use Rattle.answers.proofs.Refusing.{sampling-refusing}
 use Rattle.pending.specs.Table.{malformed}
 use Rattle.pending.proofs.table.Formed.{few-columns}
-use Rattle.client.specs.Open.{shapeBad, placeTests, eitherShort, openingNumber}
+use Rattle.client.specs.Open.{openShapeBad, placeTests, eitherShort}
+use Rattle.client_answers.specs.Open.{openingNumber}
 use Rattle.client.proofs.open.Samples.{refuses}
 use Rattle.client.proofs.open.Sizes.{Shaped, shaped}
-use Rattle.client.proofs.open.Answers.{refusing, ticket-told}
+use Rattle.client_answers.proofs.Refusing.{opening-refusing}
+use Rattle.client.proofs.open.Answers.{ticket-told}
 use Rattle.client.proofs.open.plan.Statement.{statement}
 use Rattle.client.proofs.open.plan.Tie as tie
 
@@ -27,7 +29,7 @@ module _ (st : tie.Start) where
   short = let a = st .args in eitherShort (a .interval) (a .n) (a .r) (a .words .now)
 
   abbrev shape-test : Bool
-  shape-test = let a = st .args in shapeBad (a .table .columns) (a .n) (a .r) (a .slab) (a .matrix) (a .hint) (a .secret) (a .error) (a .query)
+  shape-test = let a = st .args in openShapeBad (a .table .columns) (a .n) (a .r) (a .slab) (a .matrix) (a .hint) (a .secret) (a .error) (a .query)
 
   -- the number of the whole
   abbrev number : ℕ
@@ -84,7 +86,7 @@ returns-3 : tie.Need-returns-3
 returns-3 c =
     let e = c .before .before in
     let p = c .before .place-refusal in
-    let some : 0 < openingNumber (p .result) = refusing (p .result) (c .match .keys2) in (
+    let some : 0 < openingNumber (p .result) = opening-refusing (p .result) (c .match .keys2) in (
       p .ensures .0 ∙ place-refused e (rw (p .ensures .0) at some),
       (p .ensures .1 .0, p .ensures .1 .1 ∙ kept _ _ _ some),
     )
@@ -102,7 +104,7 @@ returns-4 : tie.Need-returns-4
 returns-4 c =
     let k = c .before .before in
     let p = c .before .words-for-both in
-    let e = refuses (short (st (two k))) 3 (rw (p .ensures .0) at (samples.refusing (p .result) (c .match2 .keys2))) in
+    let e = refuses (short (st (two k))) 3 (rw (p .ensures .0) at (sampling-refusing (p .result) (c .match2 .keys2))) in
     (sym (place-passed (two k) (placed k) ∙ ap (λ (t : Bool). first (t ⇒ 3 ∷ [])) e), (refl, refl))
 
 returns-5 : tie.Need-returns-5
@@ -111,7 +113,7 @@ returns-5 c =
     let p = c .before .before .before .words-for-both in
     let told = c .before .read .given .1 in
     let place = k .before .place .given in (
-      sym (place-passed (two k) (placed k) ∙ sym (p .ensures .0) ∙ ap sampledNumber told),
+      sym (place-passed (two k) (placed k) ∙ sym (p .ensures .0) ∙ ap samplingNumber told),
       (ticket-told _ _ _ (place .1) _ (k .before .before .before .place-refusal .ensures .1 .0), rw told at (p .ensures .1)),
     )
 

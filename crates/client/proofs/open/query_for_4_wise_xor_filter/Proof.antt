@@ -13,9 +13,11 @@ use Rattle.plain.specs.Matrix.{times}
 use Rattle.leaves.specs.Positions.{positionsBad}
 use Rattle.arith.specs.Sampler.{given}
 use Rattle.pending.specs.Table.{slotOf}
-use Rattle.client.specs.Open.{Asked, asked, unread, bothRead, secretOf, errorOf, noisy, noisyOf, wraps, marked, openingNumber}
+use Rattle.client.specs.Open.{Asked, asked, unread, bothRead, secretOf, errorOf, noisy, noisyOf, wraps, marked}
+use Rattle.client_answers.specs.Open.{openingNumber}
 use Rattle.pending.proofs.table.Lengths.{next-fits}
-use Rattle.client.proofs.open.Answers.{early, refusing, ticket-told, read-told, Ready, ready, refused, wrapped, opened, said-same, left-same}
+use Rattle.client_answers.proofs.Refusing.{opening-refusing}
+use Rattle.client.proofs.open.Answers.{early, ticket-told, read-told, Ready, ready, refused, wrapped, opened, said-same, left-same}
 use Rattle.client.proofs.open.query_for_4_wise_xor_filter.Statement.{statement}
 use Rattle.client.proofs.open.query_for_4_wise_xor_filter.Tie as tie
 
@@ -26,13 +28,17 @@ lent st =
     asked (a .table) (a .slab .now) (a .n) (a .r) (a .matrix .now) (a .hint .now) (a .interval) (a .positions) (a .digest)
     (a .words .now) (a .secret .now) (a .error .now) (a .query .now)
 
+-- where the first step was made from
+abbrev before-plan : tie.After-plan → tie.Start
+before-plan c = c .before .before .before .before .before .before .before .before
+
 -- the first step was passed
 module _ (c : tie.After-known-told) where
   abbrev planned : tie.After-plan
   planned = c .before .before .before
 
   abbrev start : tie.Start
-  start = planned .before .before .before .before .before .before .before .before
+  start = before-plan planned
 
   abbrev call : Asked
   call = lent start
@@ -130,8 +136,8 @@ returns : tie.Need-returns
 unfolding early
 returns c =
     let p = c .before .plan in
-    let a = lent (c .before .before .before .before .before .before .before .before .before) in
-    let some : 0 < openingNumber (p .result) = refusing (p .result) (c .match .keys2) in
+    let a = lent (before-plan (c .before)) in
+    let some : 0 < openingNumber (p .result) = opening-refusing (p .result) (c .match .keys2) in
     let r = refused a (rw (p .ensures .0) at some) in (
       said-same (p .ensures .0) (p .ensures .1 .0 ∙ sym (kept _ _ _ some)) (p .ensures .1 .1 ∙ sym (kept _ _ _ some)) refl ∙ sym (r .0),
       sym (r .1),
@@ -170,11 +176,12 @@ same-length-2 c = search needs
 
 returns-2 : tie.Need-returns-2
 returns-2 c =
-    let t = c .before .before .before .before .before .before .before .before in
+    let z = c .before .before .before .before .before .before in
+    let t = z .before .before in
     let w = t .before in
     let r = wrapped (asks (added w)) (none (passed (drawn (added w)))) (wraps-is w ∙ t .if1 .taken) in (
       said-same refl refl (read-is w) refl ∙ sym (r .0),
-      left-same refl (c .before .before .before .before .before .before .zero .ensures ∙ secret-zeros (added w))
+      left-same refl (z .zero .ensures ∙ secret-zeros (added w))
           (c .before .before .zero2 .ensures ∙ noise-zeros (added w)) refl
           ∙ sym (r .1),
     )

@@ -2,12 +2,13 @@
 -- the copy, which takes the marked words.
 use mathlib.Core.Path.{ap, _∙_}
 use mathlib.Core.List.{List}
-use Prim.Native.Nat.{ℕ, _*_}
+use Prim.Native.Nat.{ℕ, _*_, _≤_}
 use native.Mathlib.Omega.{arith}
 use lib.ListN.{length, replicate}
 use borrow.Author.Needs.{needs}
 use Rattle.laws.specs.Lists.{splice, laid}
 use Rattle.laws.proofs.Lists.{length-build}
+use Rattle.leaves.proofs.words.Copied.{copied-whole}
 use Rattle.plain.specs.Matrix.{times}
 use Rattle.pending.proofs.table.Slots.{some-free}
 use Rattle.pending.proofs.table.Answers.{Takable, taken-is}
@@ -64,7 +65,8 @@ returns c =
     let p = st .pre .1 .0 in
     let can : Takable (a .table) (a .digest) =
     record { unheld = p .3; unfilled = some-free (a .table) (λ e. omega (arith, p .0)); least = p .1; most = p .2 } in
-    let long = ap length (made .mark .ensures) ∙ length-build (length (a .error .now)) _ in (
+    let long = ap length (made .mark .ensures) ∙ length-build (length (a .error .now)) _ in
+    let fits : length (made .mark .last .1 .1 .0) ≤ length (a .query .now) = omega (arith, long, st .pre .1 .1 .0 .2) in (
       c .take .ensures ∙ taken-is (a .table) (a .digest) can,
       (
         put .put-secret .ensures ∙ ap (λ (s : ℕ). splice (s * a .table .columns) key (a .slab .now)) slot,
@@ -72,7 +74,7 @@ returns c =
           wiped .zero .ensures,
           (
             zeroed .zero2 .ensures ∙ ap (λ (n : ℕ). replicate n 0) long,
-            copied .copy .ensures ∙ ap (λ (xs : List ℕ). laid xs (a .query .now)) (made .mark .ensures),
+            copied .copy .ensures ∙ copied-whole _ _ fits ∙ ap (λ (xs : List ℕ). laid xs (a .query .now)) (made .mark .ensures),
           ),
         ),
       ),

@@ -9,8 +9,7 @@ use lib.Pow.{pow-pos, pow-mono, shr-lt}
 use borrow.Author.Needs.{needs}
 use borrow.Author.Tests.{lt-ltb, le-ltb}
 use Rattle.leaves.specs.Rounding.{delta, rounded}
-use Rattle.laws.proofs.Bits.{one-shifted, shifted-pos}
-use Rattle.leaves.proofs.rounding.Indicator.{indicator-is}
+use Rattle.leaves.proofs.rounding.Indicator.{indicator-is, modulus-is}
 use Rattle.leaves.proofs.rounding.rounded.Statement.{statement}
 use Rattle.leaves.proofs.rounding.rounded.Tie as tie
 
@@ -68,31 +67,33 @@ add-result c =
     let n = c .before in
     omega (arith, ap (λ (d : ℕ). u n / d) (is-delta n), quotient-lt (b n) (u n) (omega arith) (omega arith))
 
-shl-result : tie.Need-shl-result
-shl-result c = search needs
+modulus-requires : tie.Need-modulus-requires
+modulus-requires c κs = search needs
 
 rem-result : tie.Need-rem-result
-rem-result c = shifted-pos (b (c .before)) (omega arith)
+rem-result c = let n = b (c .before .before) in omega (arith, c .modulus .ensures ∙ modulus-is n (omega arith), pow-pos n)
 
 returns-3 : tie.Need-returns-3
 unfolding rounded
 returns-3 c =
-    let d = is-delta (c .before) in
-    let l = rw d at (c .if3 .taken) in
-    simp (d, one-shifted (b (c .before)) (omega arith), lt-ltb _ _ l)
+    let n = c .before .before in
+    let d = is-delta n in
+    let l = rw d at (c .before .if3 .taken) in
+    simp (d, c .modulus .ensures ∙ modulus-is (b n) (omega arith), lt-ltb _ _ l)
 
-shl-result-2 : tie.Need-shl-result-2
-shl-result-2 c = search needs
+modulus-requires-2 : tie.Need-modulus-requires-2
+modulus-requires-2 c κs = search needs
 
 rem-result-2 : tie.Need-rem-result-2
-rem-result-2 c = shifted-pos (b (c .before)) (omega arith)
+rem-result-2 c = let n = b (c .before .before) in omega (arith, c .modulus2 .ensures ∙ modulus-is n (omega arith), pow-pos n)
 
 returns-4 : tie.Need-returns-4
 unfolding rounded
 returns-4 c =
-    let d = is-delta (c .before) in
-    let l = rw d at (c .if3 .left) in
-    simp (d, one-shifted (b (c .before)) (omega arith), le-ltb _ _ l, add-zero)
+    let n = c .before .before in
+    let d = is-delta n in
+    let l = rw d at (c .before .if3 .left) in
+    simp (d, c .modulus2 .ensures ∙ modulus-is (b n) (omega arith), le-ltb _ _ l, add-zero)
 
 pub rounded-spec : {M : Type 1} → statement M
 rounded-spec =
@@ -104,9 +105,9 @@ rounded-spec =
     div-quotient
     rem-if3
     add-result
-    shl-result
+    modulus-requires
     rem-result
     returns-3
-    shl-result-2
+    modulus-requires-2
     rem-result-2
     returns-4)

@@ -1,4 +1,4 @@
--- The first i words are zero.
+-- The first j words are zero.
 use mathlib.Core.Path.{_≡_, refl, ap, _∙_}
 use mathlib.Core.List.{_++_, append-nil}
 use Prim.Native.Nat.{_-_, _≤_}
@@ -10,10 +10,10 @@ use Rattle.leaves.proofs.words.zero.Statement.{statement}
 use Rattle.leaves.proofs.words.zero.Tie as tie
 
 abbrev Inv-loop : tie.InvT-loop
-Inv-loop words₀ i₀ words i = (i ≤ length words₀) × (length words ≡ length words₀) × (words ≡ replicate i 0 ++ drop i words₀)
+Inv-loop words₀ j₀ words j = (j ≤ length words₀) × (length words ≡ length words₀) × (words ≡ replicate j 0 ++ drop j words₀)
 
 abbrev μ-loop : tie.MeasureT-loop
-μ-loop words₀ i₀ words i = length words₀ - i
+μ-loop words₀ j₀ words j = length words₀ - j
 
 loop-holds : tie.Need-loop-holds Inv-loop μ-loop
 loop-holds c = (search needs, refl, refl)
@@ -24,8 +24,8 @@ mul-words c = search needs
 slice-write-words : tie.Need-slice-write-words Inv-loop μ-loop
 slice-write-words c = search needs
 
-add-i : tie.Need-add-i Inv-loop μ-loop
-add-i c = search needs
+add-j : tie.Need-add-j Inv-loop μ-loop
+add-j c = search needs
 
 loop-less : tie.Need-loop-less Inv-loop μ-loop
 loop-less c = search needs
@@ -34,7 +34,7 @@ loop-again : tie.Need-loop-again Inv-loop μ-loop
 loop-again c =
     let l = c .before .loop in
     let w = c .before .before .args .words .now in
-    (omega arith, search needs, rw (l .inv .2) (fill-more (l .i) 0 w (omega arith)))
+    (omega arith, search needs, rw (l .inv .2) (fill-more (l .j) 0 w (omega arith)))
 
 same-length : tie.Need-same-length Inv-loop μ-loop
 same-length c = search needs
@@ -43,7 +43,7 @@ returns : tie.Need-returns Inv-loop μ-loop
 returns c =
     let l = c .before .loop in
     let w = c .before .before .args .words .now in
-    let e : l .i ≡ length w = omega arith in
+    let e : l .j ≡ length w = omega arith in
     let full : length w ≤ length w = omega arith in
     (rw e at (l .inv .2)) ∙ ap (λ t. replicate (length w) 0 ++ t) (drop-of-length-le w full) ∙ append-nil (replicate (length w) 0)
 
@@ -56,7 +56,7 @@ zero-spec =
     loop-holds
     mul-words
     slice-write-words
-    add-i
+    add-j
     loop-less
     loop-again
     same-length

@@ -11,24 +11,28 @@ use Rattle.laws.specs.Lists.{build, laid}
 use Rattle.laws.proofs.Lists.{length-build}
 use Rattle.laws.proofs.Refusals.{kept, written}
 use Rattle.laws.proofs.Filling.{filled-none, part-more}
-use Rattle.plain.specs.Bytes.{wordAt, rowsOf, columnsOf, elementsOf, readNumber}
-use Rattle.plain.proofs.bytes.Answers.{refusing, success, rows-read, columns-read, allowed}
+use Rattle.plain.specs.Bytes.{wordAt, rowsOf, columnsOf, elementsOf, fromBytesNumber}
+use Rattle.answers.proofs.Refusing.{parsing-refusing}
+use Rattle.plain.proofs.bytes.Answers.{success, rows-read, columns-read, allowed}
 use Rattle.plain.proofs.bytes.from_bytes.Statement.{statement}
 use Rattle.plain.proofs.bytes.from_bytes.Tie as tie
 
 -- success: the number is 0, the dimensions are those of the bytes, and all fits
 module _ (c : tie.After-known-told) where
+  abbrev start : tie.Start
+  start = c .before .before .before .before .before .before
+
   abbrev bytes : List ℕ
-  bytes = c .before .before .before .before .before .before .args .bytes .now
+  bytes = start .args .bytes .now
 
   abbrev old : List ℕ
-  old = c .before .before .before .before .before .before .args .out .now
+  old = start .args .out .now
 
   -- the words that are read
   abbrev count : ℕ
   count = c .before .answer .given .0 .0 * c .before .answer .given .0 .1 .0 - 0
 
-  none : readNumber bytes (length old) ≡ 0
+  none : fromBytesNumber bytes (length old) ≡ 0
   none = success bytes (length old) _ _ _ (c .before .answer .given .1) (c .before .before .before .plan .ensures .0)
 
   rows-are : c .before .answer .given .0 .0 ≡ rowsOf bytes
@@ -69,7 +73,7 @@ enum-known-answer c = search needs
 returns : tie.Need-returns
 returns c =
     let p = c .before .plan .ensures in
-    (p .0, (p .1 .0, (p .1 .1, kept _ _ _ (rw (p .0) at (refusing (c .before .plan .result) (c .match .keys2))))))
+    (p .0, (p .1 .0, (p .1 .1, kept _ _ _ (rw (p .0) at (parsing-refusing (c .before .plan .result) (c .match .keys2))))))
 
 mul-end : tie.Need-mul-end
 mul-end c = omega (arith, fits c)

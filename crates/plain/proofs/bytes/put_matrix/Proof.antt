@@ -70,10 +70,12 @@ same-length c = search needs
 
 returns : tie.Need-returns
 returns c =
-    let st = c .before .before .before .before .before .before .before .before .before .before .before in
+    let body = c .before .before in
+    let dims = body .before .before .before .before in
+    let st = dims .before .before .before .before .before in
     let a = st .args in
     let fits : 8 + 4 * length (a .words .now) ≤ length (a .out .now) = omega (arith, st .pre .2, st .pre .3) in
-    both (a .rows) (a .columns) (a .words .now) (a .out .now) _ _ fits (c .before .before .before .before .before .before .put-words .ensures) (c .before .before .put-words2 .ensures)
+    both (a .rows) (a .columns) (a .words .now) (a .out .now) _ _ fits (dims .put-words .ensures) (body .put-words2 .ensures)
 
 pub put-matrix-spec : {M : Type 1} → statement M
 put-matrix-spec =

@@ -34,9 +34,12 @@ shared-slice-read-word-of-4 c = search needs
 word-of-requires : tie.Need-word-of-requires
 word-of-requires c κs = search needs
 
+abbrev start : tie.After-word-of → tie.Start
+start c = c .before .before .before .before .before .before
+
 returns : tie.Need-returns
 unfolding wordAt sum
-returns c = rw (add-zero (c .before .before .before .before .before .before .args .q * 4)) (c .word-of .ensures)
+returns c = rw (add-zero (start c .args .q * 4)) (c .word-of .ensures)
 
 pub word-at-spec : {M : Type 1} → statement M
 word-at-spec =

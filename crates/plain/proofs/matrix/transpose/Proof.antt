@@ -8,10 +8,14 @@ use lib.ListN.{length}
 use borrow.Author.Needs.{needs}
 use Rattle.laws.specs.Refusals.{_⇒_, first}
 use Rattle.laws.proofs.Refusals.{kept, written}
-use Rattle.plain.specs.Matrix.{plainNumber, transposeNumber}
+use Rattle.plain.specs.Matrix.{transposeNumber}
+use Rattle.answers.specs.Matrix.{fittingNumber}
 use Rattle.plain.proofs.matrix.Answers.{accepted}
 use Rattle.plain.proofs.matrix.transpose.Statement.{statement}
 use Rattle.plain.proofs.matrix.transpose.Tie as tie
+
+abbrev start : tie.After-refusal → tie.Start
+start c = c .before .before .before .before
 
 -- the definition's number for a call, and the answer that has it
 expected : tie.Start → ℕ
@@ -19,12 +23,12 @@ expected st =
     let a = st .args in
     transposeNumber (a .r) (a .c) (length (a .words .now)) (length (a .out .now))
 
-number : (c : tie.After-refusal) → plainNumber (c .refusal .result) ≡ expected (c .before .before .before .before)
+number : (c : tie.After-refusal) → fittingNumber (c .refusal .result) ≡ expected (start c)
 unfolding expected transposeNumber
 number c = c .refusal .ensures ∙ ap (λ (s : Bool). first (s ⇒ 2 ∷ [])) (c .before .lent-bad .ensures)
 
-none : (c : tie.After-enum-told) → expected (c .before .before .before .before .before .before) ≡ 0
-none c = sym (number (c .before .before)) ∙ ap plainNumber (c .enum-told .given .1)
+none : (c : tie.After-enum-told) → expected (start (c .before .before)) ≡ 0
+none c = sym (number (c .before .before)) ∙ ap fittingNumber (c .enum-told .given .1)
 
 lent-bad-requires : tie.Need-lent-bad-requires
 lent-bad-requires c κs = search needs
@@ -41,9 +45,10 @@ enum-told-2 c = search needs
 returns : tie.Need-returns
 unfolding expected
 returns c =
-    let e = number (c .before .before) in
-    let two = ap plainNumber (c .enum-told2 .given .1) in
-    let some : 0 < expected (c .before .before .before .before .before .before) = omega (arith, e, two) in
+    let asked = c .before .before in
+    let e = number asked in
+    let two = ap fittingNumber (c .enum-told2 .given .1) in
+    let some : 0 < expected (start asked) = omega (arith, e, two) in
     (e, kept _ _ _ some)
 
 columns-as-rows-requires : tie.Need-columns-as-rows-requires

@@ -32,8 +32,8 @@ use denote.Triple.Entry.{alive}
 use denote.Triple.Spec.{Meets, tripleOf}
 use denote.Triple.Statement.{Contract, Triple}
 use denote.Triple.Table.{entered, cited}
-use Rattle.arith.specs.declared.packing.Packed.{Packed}
-use Rattle.arith.proofs.packing.Packed as S
+use Rattle.answers.specs.declared.packing.Packing.{Packing}
+use Rattle.answers.proofs.packing.Packing as S
 use Rattle.arith.proofs.product.row_vector_x_compressed_transposed_matrix as product
 use Rattle.arith.proofs.product.row_vector_x_compressed_transposed_matrix.Symbol as product-def
 use Rattle.arith.proofs.product.row_vector_x_compressed_transposed_matrix.Met as product-thm
@@ -79,7 +79,7 @@ module _ {M : Type 1} (𝓤 : URA M) (H : Heap 𝓤) (A : Atoms 𝓤) (W : Given
         move ! (1 ∷ 0 ∷ []) $ fjoin ! $ move ! (2 ∷ 0 ∷ []) $ join ! $ frame ! $ drop ! $ done !
 
     -- what the product ensures is what is ensured
-    says : (r : Packed) (zs : List ℕ)
+    says : (r : Packing) (zs : List ℕ)
         → ent 𝓤 (product.clauses 𝓤 H A mem run κs (to .0 .3) .ensures tt r (atExit product.ended κs (to .0 .3) (lasting 5 zs)))
         (multiply.clauses 𝓤 H A mem run κs (y .0 .3) .ensures tt r (atExit multiply.ended κs (y .0 .3) (lasting 2 zs)))
     says r zs = id⊢ 𝓤 _

@@ -34,8 +34,8 @@ use denote.Triple.Entry.{alive}
 use denote.Triple.Spec.{Meets, tripleOf}
 use denote.Triple.Statement.{Contract, Triple}
 use denote.Triple.Table.{entered, cited}
-use Rattle.arith.specs.declared.packing.Packed.{Packed}
-use Rattle.arith.proofs.packing.Packed as S
+use Rattle.answers.specs.declared.packing.Packing.{Packing}
+use Rattle.answers.proofs.packing.Packing as S
 use Rattle.view.specs.declared.packed.PackedMatrix.{PackedMatrix}
 use Rattle.view.proofs.packed.PackedMatrix as T
 use Rattle.view.proofs.packed.PackedMatrix.Laws as T′
@@ -132,7 +132,7 @@ module _ {M : Type 1} (𝓤 : URA M) (H : Heap 𝓤) (A : Atoms 𝓤) (W : Given
         move ! (1 ∷ 0 ∷ []) $ join ! $ done !
 
     -- what `multiply` ensures of the view is what is ensured
-    says : (u : Val) (r : Packed) (zs : List ℕ)
+    says : (u : Val) (r : Packing) (zs : List ℕ)
         → ent 𝓤 (multiply.clauses 𝓤 H A mem run κs (to-multiply u .0 .3) .ensures tt r (atExit multiply.ended κs (to-multiply u .0 .3) (lasting 2 zs)))
         (times.clauses 𝓤 H A mem run κs (y .0 .3) .ensures tt r (atExit times.ended κs (y .0 .3) (lasting 5 zs)))
     says u r zs = id⊢ 𝓤 _

@@ -32,8 +32,8 @@ use denote.Triple.Entry.{alive}
 use denote.Triple.Spec.{Meets, tripleOf}
 use denote.Triple.Statement.{Contract, Triple}
 use denote.Triple.Table.{entered, cited}
-use Rattle.arith.specs.declared.packing.Packed.{Packed}
-use Rattle.arith.proofs.packing.Packed as S
+use Rattle.answers.specs.declared.packing.Packing.{Packing}
+use Rattle.answers.proofs.packing.Packing as S
 use Rattle.arith.proofs.packing.row_wise_decompress as decompress
 use Rattle.arith.proofs.packing.row_wise_decompress.Symbol as decompress-def
 use Rattle.arith.proofs.packing.row_wise_decompress.Met as decompress-thm
@@ -79,7 +79,7 @@ module _ {M : Type 1} (𝓤 : URA M) (H : Heap 𝓤) (A : Atoms 𝓤) (W : Given
         move ! (2 ∷ 0 ∷ []) $ join ! $ frame ! $ drop ! $ done !
 
     -- what `row_wise_decompress` ensures is what is ensured
-    says : (r : Packed) (zs : List ℕ)
+    says : (r : Packing) (zs : List ℕ)
         → ent 𝓤 (decompress.clauses 𝓤 H A mem run κs (to .0 .3) .ensures tt r (atExit decompress.ended κs (to .0 .3) (lasting 4 zs)))
         (unpack.clauses 𝓤 H A mem run κs (y .0 .3) .ensures tt r (atExit unpack.ended κs (y .0 .3) (lasting 1 zs)))
     says r zs = id⊢ 𝓤 _

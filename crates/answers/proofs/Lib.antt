@@ -1,0 +1,4 @@
+-- Laws of all answers alike.
+pub mod Apart
+pub mod Refusing
+pub mod Settled
