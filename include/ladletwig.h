@@ -55,7 +55,7 @@ enum ladletwig_number {
     LADLETWIG_SHAPE = 2,        /* a dimension, a buffer's length or an output's room is wrong; C*b below 264 */
     LADLETWIG_WORDS_END = 3,    /* the random words ran out before enough were accepted */
     LADLETWIG_INTERVAL = 4,     /* the sampler's interval is 0 or above 1431655765 */
-    LADLETWIG_POSITIONS = 5,    /* a position is R or more, or two of the four are equal */
+    LADLETWIG_POSITIONS = 5,    /* a position is no row of the database, or stands twice */
     LADLETWIG_WRAPS = 6,        /* adding Delta would wrap a query entry at one of the four positions */
     LADLETWIG_PENDING = 7,      /* a query for this digest is pending already */
     LADLETWIG_FULL = 8,         /* all 64 slots are taken */

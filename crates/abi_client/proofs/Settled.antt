@@ -3,8 +3,8 @@
 use mathlib.Core.Path.{refl, ap, _∙⁻¹_}
 use Rattle.laws.specs.Contracts.{AllowsOne}
 use Rattle.laws.proofs.Contracts.{_&_, past, skip}
-use Rattle.client.specs.Open.{OpenSaid, OpenLeft}
-use Rattle.client.specs.Reply.{ReplySaid}
+use Rattle.queries.specs.Open.{OpenSaid, OpenLeft}
+use Rattle.replies.specs.Reply.{ReplySaid}
 use Rattle.abi_client.proofs.table.ladletwig_fresh as fresh
 use Rattle.abi_client.proofs.table.ladletwig_is_malformed as is-malformed
 use Rattle.abi_client.proofs.«open».ladletwig_query_for_4_wise_xor_filter as query

@@ -10,7 +10,7 @@ pub enum Sampling {
     Shape,
     // 4: the interval is outside 1..=1431655765.
     Interval,
-    // 3: the words end before enough are accepted.
+    // 3: too few of the words are accepted.
     Short,
 }
 

@@ -1,4 +1,5 @@
 // Document 01, "Row codec": what stands in `rows`, under the arithmetic's name.
+pub use rows::codec::BESIDE_VALUE;
 pub use rows::codec::Decoding;
 pub use rows::codec::Encoding;
 pub use rows::codec::columns_bad;

@@ -105,7 +105,7 @@ pub(crate) fn least(a: usize, b: usize) -> usize
     b
 }
 
-// The elements of `part` in one word, each cut to its low b bits and shifted into its slot of w bits.
+// The elements of `part` in one word: the low b bits of each, in slots of w bits.
 fn pack_word(b: u32, w: u32, part: &[u32]) -> u32
     requires { ⌜ Slotted b w (length (now part)) ⌝ }
     ensures { λ r. ⌜ r ≡ wordOf b w (now (part .entry)) ⌝ }

@@ -85,7 +85,7 @@ fn operands_bad(
     packing::shape_bad(rows, k, width, 1, lent, room)
 }
 
-// A vector of k words times the transpose of a packed matrix of `rows` rows of k elements, into the start of `out`.
+// The sum of products of the vector with each row of a packed matrix, row after row, into the start of `out`.
 pub fn row_vector_x_compressed_transposed_matrix(
     b: u32,
     vector: &[u32],

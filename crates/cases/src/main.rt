@@ -10,10 +10,10 @@ mod words;
 
 use abi_client::table;
 use abi_plain::rounding;
-use client::table::Table;
 use line::ROOM;
 use line::Sizes;
 use line::Words;
+use pending::table::Table;
 
 // A call that leaves table and slab as they are, or no call.
 fn beside(entry: u32, n: &Sizes, w: Words, t: Table) {

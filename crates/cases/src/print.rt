@@ -2,7 +2,7 @@
 use super::entries::Span;
 use super::lend;
 use super::line::ROOM;
-use client::table::Table;
+use pending::table::Table;
 
 pub(crate) fn text(s: &[u8]) {
     io::write_all(libc::STDOUT_FILENO, s);

@@ -10,7 +10,7 @@ use abi_client::open::Positions;
 use abi_client::reply;
 use abi_client::reply::Replied;
 use abi_client::table;
-use client::table::Table;
+use pending::table::Table;
 
 pub(crate) fn fresh(n: &Sizes, w: &Words) -> Table {
     let made = table::ladletwig_fresh(w[1], n[2]);

@@ -16,15 +16,15 @@ use Rattle.laws.proofs.Splice.{row-kept}
 use Rattle.plain.proofs.matrix.Cells.{length-product}
 use Rattle.pending.specs.declared.table.Table.{Table}
 use Rattle.pending.specs.Table.{Sized, malformed, pending, slotOf, closed, wiped, freshNumber, freshAfter}
-use Rattle.client.specs.Open.{Asked, secretOf, storedSecret, openNumber, openOf, openLeft}
-use Rattle.client.specs.Reply.{Received, slotFor, replyNumber, closing, replyOf, replySlab}
-use Rattle.client.specs.Discard.{discardNumber, discardTable, discardSlab}
+use Rattle.queries.specs.Open.{Asked, secretOf, storedSecret, openNumber, openOf, openLeft}
+use Rattle.replies.specs.Reply.{Received, slotFor, replyNumber, closing, replyOf, replySlab}
+use Rattle.replies.specs.Discard.{discardNumber, discardTable, discardSlab}
 use Rattle.pending.proofs.table.Slots.{Kept, slot-pending, taken-others, closed-others}
 use Rattle.pending.proofs.table.Formed.{taken-formed, closed-formed}
 use Rattle.pending.proofs.table.Pending.{fresh-pending, taken-pending, closed-pending}
-use Rattle.client.proofs.open.Answers.{Ready, succeeded}
-use Rattle.client.proofs.reply.Answers.{none-early, waiting, lent}
-use Rattle.client.proofs.discard.Answers.{accepted}
+use Rattle.queries.proofs.open.Answers.{Ready, succeeded}
+use Rattle.replies.proofs.reply.Answers.{none-early, waiting, lent}
+use Rattle.replies.proofs.discard.Answers.{accepted}
 
 -- What holds of both cases of a test holds of the one that it picks. An answer's number is such a test.
 chosen : {A : Type 0} (P : A → Type 0) (b : Bool) (new old : A) → (b ≡ true → P new) → P old → P (cond b new old)

@@ -1,5 +1,5 @@
-// Document 01, "Lines": what stands in `frames` for a terminal, under the client's name.
-pub use frames::terminal::Reading;
-pub use frames::terminal::Writing;
-pub use frames::terminal::read_response_line;
-pub use frames::terminal::write_query_line;
+// Document 01, "Lines": what stands in `terminal`, under the client's name.
+pub use terminal::lines::Reading;
+pub use terminal::lines::Writing;
+pub use terminal::lines::read_response_line;
+pub use terminal::lines::write_query_line;

@@ -12,15 +12,15 @@ pub enum Opening {
     Shape,
     // 4: the interval is outside 1..=1431655765.
     Interval,
-    // 5: a position is R or more, or two are equal.
+    // 5: a position is no row of the database, or stands twice.
     Positions,
-    // 7: the digest is already pending.
+    // 7: a ticket of this digest waits for its reply.
     Pending,
-    // 8: no free slot.
+    // 8: all 64 slots are used.
     Full,
-    // 9: the next ticket number is 2^32 - 1.
+    // 9: no number is left for a ticket: next is at its end.
     Numbers,
-    // 3: the words end before enough are accepted.
+    // 3: too few of the words are accepted.
     Short,
     // 6: an entry would wrap; the count of words read, which must not be used again.
     Wraps(usize),

@@ -20,14 +20,14 @@ use Rattle.leaves.specs.Digests.{differs}
 use Rattle.leaves.specs.Rounding.{rounded}
 use Rattle.plain.specs.Matrix.{grid, times}
 use Rattle.plain.specs.Bytes.{allBytes, matrixBytes, wordAt}
-use Rattle.arith.specs.Sampler.{accepted, ternary, given, holdsEnough, shortest, tooFew}
+use Rattle.samples.specs.Sampler.{accepted, ternary, given, holdsEnough, shortest, tooFew}
 use Rattle.rows.specs.Codec.{columnsBad, encodeNumber, recordOf, rowOf, bytesOf, lastNonzero, markerBad}
 use Rattle.builder.specs.Database.{less, database, keysBad, buildNumber}
 use Rattle.builder.specs.Placement.{seenBefore, keyBad, placementBad}
 use Rattle.pending.specs.Table.{alike, malformed, pending, digestPending, full, freshNumber}
-use Rattle.client.specs.Open.{openShapeBad, bothRead, eitherShort, noisy, wraps, marked, errorOf, openNumber}
-use Rattle.client.specs.Reply.{lentBad, lessWord, recovered, replyNumber}
-use Rattle.client.specs.Discard.{discardNumber}
+use Rattle.queries.specs.Open.{openShapeBad, bothRead, eitherShort, noisy, wraps, marked, errorOf, openNumber}
+use Rattle.replies.specs.Reply.{lentBad, lessWord, recovered, replyNumber}
+use Rattle.replies.specs.Discard.{discardNumber}
 use Rattle.frames.specs.Lines.{digit, hex, frame, digitValue, unhex, lineWords, digitsBad, lineBad, readLineNumber}
 use Rattle.runs.specs.Run.{asking, run}
 use Rattle.runs.specs.Said.{said}

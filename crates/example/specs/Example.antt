@@ -10,7 +10,7 @@ use Rattle.laws.specs.Search.{some}
 use Rattle.plain.specs.Matrix.{cell}
 use Rattle.rows.specs.Codec.{rowOf}
 use Rattle.builder.specs.Database.{Proposed, buildAfter}
-use Rattle.client.specs.Open.{errorOf}
+use Rattle.queries.specs.Open.{errorOf}
 use Rattle.runs.specs.Run.{Lent, State, Ask, Event, opens, comes, discards, asking, step, run, start}
 use Rattle.runs.specs.Said.{said}
 use Rattle.recovery.specs.Noise.{noise}

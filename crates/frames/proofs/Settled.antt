@@ -6,8 +6,6 @@ use Rattle.laws.proofs.Contracts.{_&_, skip}
 use Rattle.answers.proofs.Apart.{same-writing, same-reading}
 use Rattle.frames.proofs.lines.write_line as write-line
 use Rattle.frames.proofs.lines.read_line as read-line
-use Rattle.frames.proofs.terminal.write_query_line as query-line
-use Rattle.frames.proofs.terminal.read_response_line as response-line
 
 pub write-line-settled : AllowsOne write-line.Kinds.ps write-line.Kinds.r write-line.Reads.Post
 write-line-settled κs a x y v w p q =
@@ -17,14 +15,4 @@ pub read-line-settled : AllowsOne read-line.Kinds.ps read-line.Kinds.r read-line
 read-line-settled κs a x y v w p q = (
   same-reading (p .0 ∙⁻¹ q .0) (p .1 .0 ∙⁻¹ q .1 .0) (p .1 .1 .0 ∙⁻¹ q .1 .1 .0),
   skip 2 (p .1 .1 .1 ∙⁻¹ q .1 .1 .1 & refl),
-)
-
-pub write-query-line-settled : AllowsOne query-line.Kinds.ps query-line.Kinds.r query-line.Reads.Post
-write-query-line-settled κs a x y v w p q =
-    (same-writing (p .0 ∙⁻¹ q .0) (p .1 .0 ∙⁻¹ q .1 .0), skip 2 (p .1 .1 ∙⁻¹ q .1 .1 & refl))
-
-pub read-response-line-settled : AllowsOne response-line.Kinds.ps response-line.Kinds.r response-line.Reads.Post
-read-response-line-settled κs a x y v w p q = (
-  same-reading (p .0 ∙⁻¹ q .0) (p .1 .0 ∙⁻¹ q .1 .0) (p .1 .1 .0 ∙⁻¹ q .1 .1 .0),
-  skip 1 (p .1 .1 .1 ∙⁻¹ q .1 .1 .1 & refl),
 )

@@ -1,4 +1,3 @@
-// Lines of either kind, and those of a terminal, whose kinds are fixed. The public functions have no `requires`, and say their
-// answer and each lent buffer at exit as an equation with a definition of specs/.
+// Lines of either kind. The public functions have no `requires`, and say their answer and each lent buffer at exit as an
+// equation with a definition of specs/.
 pub mod lines;
-pub mod terminal;

@@ -16,6 +16,6 @@ indicatorOf b = cond (outside 1 32 b) 0 (delta b)
 unfoldable pub modulusOf : ℕ → ℕ
 modulusOf b = cond (ltb b 32) (2 ^ b) 0
 
--- the quotient u/Δ, one more exactly when the remainder exceeds Δ/2, then modulo 2^b
+-- the word in multiples of Δ, to the nearest, a half going down, modulo 2^b
 unfoldable pub rounded : ℕ → ℕ → ℕ
 rounded b u = (u / delta b + cond (ltb (delta b / 2) (u % delta b)) 1 0) % 2 ^ b

@@ -1,8 +1,7 @@
--- Two results that a contract allows for one input coincide: the answer, the table and the slab alike. It is said of the
--- contracts themselves, and p and q are what their clauses say of the two results.
+-- Two results that a contract allows for one input coincide: the answer and the table alike. It is said of the contracts
+-- themselves, and p and q are what their clauses say of the two results.
 use mathlib.Core.Path.{_≡_, refl, _∙⁻¹_}
 use Rattle.laws.specs.Contracts.{AllowsOne}
-use Rattle.laws.proofs.Contracts.{_&_, skip}
 use Rattle.client_answers.proofs.Apart.{same-making}
 use Rattle.pending.proofs.table.fresh as fresh
 use Rattle.pending.proofs.table.is_malformed as is-malformed
@@ -10,8 +9,6 @@ use Rattle.pending.proofs.table.slot_of as slot-of
 use Rattle.pending.proofs.table.is_pending as is-pending
 use Rattle.pending.proofs.table.digest_pending as digest-pending
 use Rattle.pending.proofs.table.differs_at as differs-at
-use Rattle.pending.proofs.table.take as taking
-use Rattle.pending.proofs.table.close as closing
 
 pub fresh-settled : AllowsOne fresh.Kinds.ps fresh.Kinds.r fresh.Reads.Post
 fresh-settled κs a x y v w p q =
@@ -32,9 +29,3 @@ digest-pending-settled κs a x y v w p q = (p ∙⁻¹ q, refl)
 
 pub differs-at-settled : AllowsOne differs-at.Kinds.ps differs-at.Kinds.r differs-at.Reads.Post
 differs-at-settled κs a x y v w p q = (p ∙⁻¹ q, refl)
-
-pub take-settled : AllowsOne taking.Kinds.ps taking.Kinds.r taking.Reads.Post
-take-settled κs a x y v w p q = (p ∙⁻¹ q, refl)
-
-pub close-settled : AllowsOne closing.Kinds.ps closing.Kinds.r closing.Reads.Post
-close-settled κs a x y v w p q = (p .0 ∙⁻¹ q .0, skip 1 (p .1 ∙⁻¹ q .1 & refl))

@@ -34,8 +34,8 @@ alike t q s =
     (used t q && used t s)
     && (eqb (numberAt t q) (numberAt t s) || not (differs (digestAt t q) (digestAt t s)))
 
--- 18: b, C or C·b outside limits; next number 0; a used number at or above next; two used slots equal in number or digest;
--- a free slot with a nonzero digest byte
+-- 18: a b or a C that no table has; next 0; a used slot whose number next has not passed; two used slots that share a number or
+-- a digest; a free slot whose digest is not all zeros
 unfoldable pub malformed : Table → Bool
 malformed t =
     widthBad (t .b)
@@ -53,7 +53,7 @@ slotOf t number = lowest 64 (λ s. eqb (numberAt t s) number)
 unfoldable pub pending : Table → ℕ → Bool
 pending t ticket = not (eqb ticket 0) && some 64 (λ s. eqb (numberAt t s) ticket)
 
--- 7: the digest is already pending
+-- 7: a used slot has this digest
 unfoldable pub digestPending : Table → List ℕ → Bool
 digestPending t digest = some 64 (λ s. used t s && not (differs (digestAt t s) digest))
 
@@ -61,11 +61,11 @@ digestPending t digest = some 64 (λ s. used t s && not (differs (digestAt t s) 
 unfoldable pub differsAt : Table → ℕ → List ℕ → Bool
 differsAt t s digest = not (used t s) || differs digest (digestAt t s)
 
--- 8: no free slot
+-- 8: every slot is used
 unfoldable pub full : Table → Bool
 full t = not (some 64 (λ s. eqb (numberAt t s) 0))
 
--- slot s with the next number and this digest; next goes up by exactly one
+-- slot s with the next number and this digest, and next one more
 abbrev pub taken : Table → ℕ → List ℕ → Table
 taken t s digest = record {
   b = t .b;
@@ -108,7 +108,7 @@ closeAfter t slab ticket = cond (closable t slab ticket) (closed t (slotOf t tic
 abbrev pub wipeAfter : Table → List ℕ → ℕ → List ℕ
 wipeAfter t slab ticket = cond (closable t (length slab) ticket) (wiped (t .columns) (slotOf t ticket) slab) slab
 
--- all 64 slots free, 2,048 digest bytes all zero
+-- no ticket is pending and no digest is kept
 abbrev pub freshTable : ℕ → ℕ → ℕ → Table
 freshTable b columns next =
     record { b = b; columns = columns; next = next; numbers = replicate 64 0; digests = replicate 2048 0 }

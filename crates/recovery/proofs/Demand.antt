@@ -13,10 +13,10 @@ use Rattle.laws.proofs.Refusals.{written}
 use Rattle.plain.proofs.matrix.Cells.{length-product}
 use Rattle.rows.specs.Codec.{rowOf, valueLength, valueOf}
 use Rattle.pending.specs.Table.{pending, slotOf, digestAt, freshNumber}
-use Rattle.client.specs.Open.{Asked, errorOf, storedSecret, secretOf, noisy, marked}
-use Rattle.client.specs.Reply.{slotFor, rowFor, rowNumber, replyNumber}
+use Rattle.queries.specs.Open.{Asked, errorOf, storedSecret, secretOf, noisy, marked}
+use Rattle.replies.specs.Reply.{slotFor, rowFor, rowNumber, replyNumber}
 use Rattle.frames.specs.Lines.{lineLength, lineTicket, readLineNumber, readLineTicket, writeLineNumber, writeLineLength, writeLineAfter}
-use Rattle.client.proofs.open.Answers.{Ready, succeeded}
+use Rattle.queries.proofs.open.Answers.{Ready, succeeded}
 use Rattle.runs.specs.Run.{Lent, State, Ask, Event, opens, comes, asking, telling, readFrom, Brings, step, start}
 use Rattle.runs.specs.Said.{said, Refused}
 use Rattle.runs.proofs.Steps.{does}

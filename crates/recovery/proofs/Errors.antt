@@ -7,8 +7,8 @@ use Prim.Native.Nat.{ℕ, zero, suc, _*_, _^_, _<_}
 use native.Mathlib.Omega.{arith}
 use lib.Dec.{leb}
 use lib.ListN.{getD, take}
-use Rattle.arith.specs.Sampler.{accepted, ternary, given}
-use Rattle.client.specs.Open.{Asked, unread, errorOf}
+use Rattle.samples.specs.Sampler.{accepted, ternary, given}
+use Rattle.queries.specs.Open.{Asked, unread, errorOf}
 use Rattle.recovery.specs.Noise.{Ternary}
 
 is-ternary : (interval x : ℕ) → Ternary (ternary interval x)

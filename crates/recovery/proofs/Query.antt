@@ -14,10 +14,10 @@ use Rattle.laws.proofs.Filling.{take-laid}
 use Rattle.laws.proofs.Below.{each-below}
 use Rattle.laws.proofs.Search.{lowest-holds, some-lowest}
 use Rattle.leaves.specs.Positions.{among}
-use Rattle.client.specs.Open.{Asked, noisy, noisyOf, marked, openNumber, openLeft}
+use Rattle.queries.specs.Open.{Asked, noisy, noisyOf, marked, openNumber, openLeft}
 use Rattle.leaves.specs.Rounding.{delta}
-use Rattle.client.proofs.open.Answers.{Succeeded, succeeded}
-use Rattle.client.proofs.open.Marks.{no-wrap}
+use Rattle.queries.proofs.open.Answers.{Succeeded, succeeded}
+use Rattle.queries.proofs.open.Marks.{no-wrap}
 
 module _ (a : Asked) (opened : openNumber a ≡ 0) where
   shown : Succeeded a

@@ -17,8 +17,8 @@ use Rattle.plain.proofs.matrix.Cells.{length-product, product-word}
 use Rattle.plain.proofs.matrix.Associates.{times-associates}
 use Rattle.builder.specs.Database.{rowsSum}
 use Rattle.leaves.specs.Rounding.{delta, rounded}
-use Rattle.client.specs.Open.{noisy, marked}
-use Rattle.client.specs.Reply.{lessWord, recovered}
+use Rattle.queries.specs.Open.{noisy, marked}
+use Rattle.replies.specs.Reply.{lessWord, recovered}
 use Rattle.recovery.specs.Store.{Store, Sound, Calm, hintOf, served, wanted}
 use Rattle.recovery.proofs.Noise.{above, below, quiet-small, noise-parts}
 use Rattle.recovery.proofs.Rounding.{rounded-cong}

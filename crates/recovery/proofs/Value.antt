@@ -28,8 +28,8 @@ use Rattle.builder.proofs.database.Success.{built-row}
 use Rattle.pending.specs.declared.table.Table.{Table}
 use Rattle.leaves.specs.Digests.{differs}
 use Rattle.pending.specs.Table.{digestAt}
-use Rattle.client.specs.Reply.{rowNumber}
-use Rattle.client.proofs.reply.Reading.{Readable, room-most, digest-left}
+use Rattle.replies.specs.Reply.{rowNumber}
+use Rattle.replies.proofs.reply.Reading.{Readable, room-most, digest-left}
 use Rattle.recovery.specs.Store.{Store, wanted}
 
 -- equal digests do not differ

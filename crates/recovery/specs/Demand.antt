@@ -9,8 +9,8 @@ use Rattle.laws.specs.Refusals.{after}
 use Rattle.rows.specs.Codec.{valueRoom, rowOf, encodeNumber, valueLength, valueOf}
 use Rattle.builder.specs.Database.{Proposed, buildNumber, buildAfter}
 use Rattle.pending.specs.Table.{malformed, pending, slotOf, digestAt}
-use Rattle.client.specs.Open.{errorOf, storedSecret}
-use Rattle.client.specs.Reply.{rowFor, rowNumber}
+use Rattle.queries.specs.Open.{errorOf, storedSecret}
+use Rattle.replies.specs.Reply.{rowFor, rowNumber}
 use Rattle.frames.specs.Lines.{frame, lineLength, writeLineNumber, writeLineLength, writeLineAfter}
 use Rattle.runs.specs.Run.{State, Ask, Tell, Event, opens, comes, asking, telling, Brings, step, run, start, Fits, Typed}
 use Rattle.runs.specs.Said.{said, Refused}
@@ -113,9 +113,9 @@ pub record Demand (st : Store) : Type 0 where
       → (out masks value : List ℕ)
       → Refused (callsOf st) u (comes (lineOf st s a) out masks value) value
       × (st .columns ≤ length out → Roomy st masks value → said (callsOf st) u (comes (lineOf st s a) out masks value) .number ≡ 10)
-  -- "if in every column the sum of error times entry is above -2^(31-b) and at most 2^(31-b), the recovered row is the sum of
-  -- the queried rows plus the masks, modulo 2^b": however the honest words come, this is the row that the client makes of them,
-  -- and what it tells is what the row reader and the digest say of that row
+  -- "the recovered row is the sum of the queried rows plus the masks, modulo 2^b", where the noise keeps its bound: however the
+  -- honest words come, this is the row that the client makes of them, and what it tells is what the row reader and the digest
+  -- say of that row
   pub recovers : (s u : State) (a : Ask) → Waiting st s a u → Calm st (errorOf (asking (callsOf st) s a))
       → (masks value : List ℕ) → Roomy st masks value → (e : Event) → Brings e (honest st s a masks value)
       → let found = wanted st (a .positions) masks in

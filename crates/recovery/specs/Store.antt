@@ -46,12 +46,12 @@ served st q = times 1 (st .r) (st .columns) q (st .elements)
 abbrev pub servedLine : Store → List ℕ → List ℕ
 servedLine st line = frame 2 (lineTicket line) (served st (lineWords line))
 
--- in every column the sum of error times entry is above -2^(31-b) and at most 2^(31-b)
+-- the noise of each column keeps its bound
 pub record Calm (st : Store) (e : List ℕ) : Type 0 where
   pub column : (j : ℕ) → j < st .columns
       → Quiet (st .b) (noise (st .r) (λ i. getD e i 0) (λ i. cell (st .columns) (st .elements) i j))
 
--- the sum of the queried rows plus the masks, modulo 2^b
+-- the rows at the positions and the masks, added up, modulo 2^b
 abbrev pub wanted : Store → List ℕ → List ℕ → List ℕ
 wanted st ps masks =
     build (st .columns) (λ j. (rowsSum (st .columns) (st .elements) ps j + getD masks j 0) % 2 ^ st .b)

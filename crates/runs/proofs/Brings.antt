@@ -11,7 +11,7 @@ use Rattle.laws.specs.Lists.{laid}
 use Rattle.laws.proofs.Filling.{take-laid}
 use Rattle.laws.proofs.Lists.{length-build}
 use Rattle.laws.proofs.Refusals.{kept, written}
-use Rattle.client.specs.Reply.{replyNumber, replyOf, replyValue}
+use Rattle.replies.specs.Reply.{replyNumber, replyOf, replyValue}
 use Rattle.frames.specs.Lines.{frame, lineTicket, lineColumns, lineWords, lineBad, readLineNumber}
 use Rattle.frames.proofs.lines.RoundTrip.{read-back}
 use Rattle.runs.specs.Run.{Lent, State, Tell, Event, opens, replies, comes, discards, telling, readFrom, Brings, replied, step}

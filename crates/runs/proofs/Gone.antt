@@ -12,8 +12,8 @@ use Rattle.laws.specs.Refusals.{Test, _⇒_, first}
 use Rattle.laws.proofs.Refusals.{not-answered, kept}
 use Rattle.rows.specs.Codec.{valueRoom}
 use Rattle.pending.specs.Table.{malformed, pending}
-use Rattle.client.specs.Reply.{lentBad, slotFor, rowFor, rowTests, replyNumber, closing}
-use Rattle.client.proofs.reply.Answers.{none-early, waiting}
+use Rattle.replies.specs.Reply.{lentBad, slotFor, rowFor, rowTests, replyNumber, closing}
+use Rattle.replies.proofs.reply.Answers.{none-early, waiting}
 use Rattle.runs.specs.Run.{Lent, State, Tell, Event, telling, Brings}
 use Rattle.runs.specs.Said.{said, Refused}
 use Rattle.runs.proofs.Healthy.{Healthy, lent-good}

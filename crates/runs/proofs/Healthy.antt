@@ -13,8 +13,8 @@ use Rattle.laws.proofs.Splice.{length-splice}
 use Rattle.plain.proofs.matrix.Cells.{length-product}
 use Rattle.rows.specs.Codec.{valueRoom}
 use Rattle.pending.specs.Table.{Sized, malformed, slotOf, freshTable, freshNumber}
-use Rattle.client.specs.Open.{Asked, secretOf, storedSecret}
-use Rattle.client.specs.Reply.{lentBad}
+use Rattle.queries.specs.Open.{Asked, secretOf, storedSecret}
+use Rattle.replies.specs.Reply.{lentBad}
 use Rattle.pending.proofs.table.Lengths.{fresh-sized, taken-sized, closed-sized}
 use Rattle.pending.proofs.table.Slots.{slot-pending}
 use Rattle.pending.proofs.table.Formed.{fresh-formed, taken-formed, closed-formed}

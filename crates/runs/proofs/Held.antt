@@ -14,8 +14,8 @@ use Rattle.laws.proofs.Search.{some-holds}
 use Rattle.laws.proofs.Splice.{row-replaced}
 use Rattle.pending.specs.declared.table.Table.{Table}
 use Rattle.pending.specs.Table.{numberAt, digestAt, malformed, slotOf, pending}
-use Rattle.client.specs.Open.{storedSecret, openNumber}
-use Rattle.client.proofs.open.Answers.{succeeded}
+use Rattle.queries.specs.Open.{storedSecret, openNumber}
+use Rattle.queries.proofs.open.Answers.{succeeded}
 use Rattle.pending.proofs.table.Tests.{numbered}
 use Rattle.pending.proofs.table.Slots.{slot-pending, number-here, digest-here}
 use Rattle.pending.proofs.table.Formed.{formed, one-slot}

@@ -10,13 +10,13 @@ use lib.ListN.{length}
 use Rattle.laws.specs.Refusals.{_⇒_, first, after}
 use Rattle.laws.specs.Lists.{splice}
 use Rattle.pending.specs.Table.{pending, slotOf, taken, closed, wiped}
-use Rattle.client.specs.Open.{openNumber, storedSecret}
-use Rattle.client.specs.Reply.{Received, replyNumber, closing}
-use Rattle.client.specs.Discard.{discardNumber}
+use Rattle.queries.specs.Open.{openNumber, storedSecret}
+use Rattle.replies.specs.Reply.{Received, replyNumber, closing}
+use Rattle.replies.specs.Discard.{discardNumber}
 use Rattle.frames.specs.Lines.{lineBad, lineColumns, readLineNumber}
-use Rattle.client.proofs.open.Answers.{Ready, succeeded}
-use Rattle.client.proofs.reply.Answers.{none-early, waiting}
-use Rattle.client.proofs.discard.Answers.{Accepted, accepted}
+use Rattle.queries.proofs.open.Answers.{Ready, succeeded}
+use Rattle.replies.proofs.reply.Answers.{none-early, waiting}
+use Rattle.replies.proofs.discard.Answers.{Accepted, accepted}
 use Rattle.runs.specs.Run.{Lent, State, Ask, Tell, Event, opens, replies, comes, discards, asking, telling, readFrom, replied}
 use Rattle.runs.specs.Run.{step, run, Fits, Typed}
 use Rattle.runs.specs.Groups.{one, openedBy, counted, answering, failing, answeredBy, failedBy, discardedBy, often}

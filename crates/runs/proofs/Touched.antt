@@ -10,7 +10,7 @@ use Rattle.laws.specs.Lists.{row, splice}
 use Rattle.laws.proofs.Refusals.{neither}
 use Rattle.laws.proofs.Splice.{row-kept}
 use Rattle.pending.specs.Table.{numberAt, slotOf}
-use Rattle.client.specs.Open.{storedSecret}
+use Rattle.queries.specs.Open.{storedSecret}
 use Rattle.pending.proofs.table.Slots.{Kept, slot-pending, number-here, taken-others, closed-others}
 use Rattle.runs.specs.Run.{Lent, State, asking}
 use Rattle.runs.proofs.Steps.{Does, still, takes, closes, then}

@@ -8,9 +8,9 @@ use lib.ListN.{length}
 use lib.Dec.{ltb, eqb}
 use Rattle.laws.specs.Refusals.{after}
 use Rattle.pending.specs.Table.{pending, slotOf}
-use Rattle.client.specs.Open.{openNumber}
-use Rattle.client.specs.Reply.{slotFor, replyNumber, closing}
-use Rattle.client.specs.Discard.{discardNumber}
+use Rattle.queries.specs.Open.{openNumber}
+use Rattle.replies.specs.Reply.{slotFor, replyNumber, closing}
+use Rattle.replies.specs.Discard.{discardNumber}
 use Rattle.frames.specs.Lines.{readLineNumber}
 use Rattle.runs.specs.Said.{said}
 use Rattle.runs.specs.Run.{Lent, State, Tell, Event, opens, replies, comes, discards, asking, telling, readFrom, step, run}

@@ -7,9 +7,9 @@ use lib.ListN.{length, take}
 use Rattle.laws.specs.Refusals.{after}
 use Rattle.pending.specs.declared.table.Table.{Table}
 use Rattle.pending.specs.Table.{freshAfter}
-use Rattle.client.specs.Open.{Asked, asked, openOf, openLeft}
-use Rattle.client.specs.Reply.{Received, received, replyOf, replySlab}
-use Rattle.client.specs.Discard.{discardTable, discardSlab}
+use Rattle.queries.specs.Open.{Asked, asked, openOf, openLeft}
+use Rattle.replies.specs.Reply.{Received, received, replyOf, replySlab}
+use Rattle.replies.specs.Discard.{discardTable, discardSlab}
 use Rattle.frames.specs.Lines.{readLineNumber, readLineTicket, readLineColumns, readLineAfter}
 
 -- what every call of a run is lent alike: n and R, the public matrix A, and a hint, which may be any

@@ -5,9 +5,9 @@ use Prim.Native.Nat.{ℕ, _<_}
 use mathlib.Core.List.{List, []}
 use lib.ListN.{length}
 use Rattle.laws.specs.Refusals.{after}
-use Rattle.client.specs.Open.{openOf, openLeft}
-use Rattle.client.specs.Reply.{replyOf, replyValue}
-use Rattle.client.specs.Discard.{discardNumber}
+use Rattle.queries.specs.Open.{openOf, openLeft}
+use Rattle.replies.specs.Reply.{replyOf, replyValue}
+use Rattle.replies.specs.Discard.{discardNumber}
 use Rattle.frames.specs.Lines.{readLineNumber, readLineTicket, readLineColumns, readLineAfter}
 use Rattle.runs.specs.Run.{Lent, State, Event, opens, replies, comes, discards, asking, telling, readFrom, step}
 

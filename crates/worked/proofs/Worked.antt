@@ -6,10 +6,10 @@ use Rattle.laws.specs.Search.{some, lowest}
 use Rattle.arith.specs.Packing.{packingShapeBad}
 use Rattle.arith.specs.Packing.{factorOf, slotBits, wordsOf, wordOf, packRow, packed, elementOf, compressNumber}
 use Rattle.arith.specs.Product.{entryOf, product, operandsBad, productNumber}
-use Rattle.arith.specs.Sampler.{accepted, ternary, given, holdsEnough, shortest, tooFew, sampleNumber}
+use Rattle.samples.specs.Sampler.{accepted, ternary, given, holdsEnough, shortest, tooFew, sampleNumber}
 use Rattle.leaves.specs.Positions.{among}
 use Rattle.leaves.specs.Rounding.{rounded}
-use Rattle.client.specs.Open.{wraps, marked}
+use Rattle.queries.specs.Open.{wraps, marked}
 use Rattle.worked.specs.Worked.{worked, AsStated}
 
 pub as-stated : AsStated worked

@@ -5,9 +5,9 @@ use mathlib.Core.List.{List, [], _∷_}
 use Rattle.laws.specs.Refusals.{_⇒_, first}
 use Rattle.arith.specs.Packing.{compressAfter}
 use Rattle.arith.specs.Product.{factors, productAfter}
-use Rattle.arith.specs.Sampler.{sampleRead, sampleAfter}
+use Rattle.samples.specs.Sampler.{sampleRead, sampleAfter}
 use Rattle.leaves.specs.Rounding.{rounded}
-use Rattle.client.specs.Open.{wraps, marked}
+use Rattle.queries.specs.Open.{wraps, marked}
 
 -- 01's number of a case, what the contracts' definitions give for it, and what 01 says
 pub record Case : Type 0 where

@@ -1,0 +1,4 @@
+// What closes a ticket: document 01's reply and discard. Each public entry refuses bad input by a number of 01, has no
+// `requires`, and says its answer, its table and each lent buffer at exit as an equation with a definition of specs/.
+pub mod discard;
+pub mod reply;

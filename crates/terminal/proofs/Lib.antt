@@ -1,0 +1,2 @@
+-- What belongs to no one module.
+pub mod Settled
