@@ -1,7 +1,7 @@
 -- What each call does to a table and its slab, whatever it answers: a table that is well formed stays so, which tickets are
 -- pending, that next rises by one at an open that succeeds and never else, and that the other slots keep all they have.
 use mathlib.Core.Path.{◌≡◌, refl, sym}
-use mathlib.Core.Bool.{Bool, true, false, not, cond, ◌&&◌, ◌||◌, or_false, and-true}
+use mathlib.Core.Bool.{Bool, true, false, not, cond, ◌&&◌, ◌||◌, or-false, and-true}
 use mathlib.Core.List.{List}
 use Prim.Native.Nat.{ℕ, zero, suc, ◌+◌, ◌*◌, ◌<◌}
 use native.Mathlib.Nat.{add-zero}
@@ -71,7 +71,7 @@ module _ (a : Asked) (size : Sized a.table) (whole : length a.digest ≡ 32) whe
       gained : (new old : Table) (y b : Bool) → (b ≡ true → pending new x ≡ (pending old x || y))
           → pending (cond b new old) x ≡ (pending old x || (b && y))
       gained new old y true f = f refl
-      gained new old y false f = sym (or_false _)
+      gained new old y false f = sym (or-false _)
 
   pub open_next : (open_of a).table.next ≡ a.table.next + cond (eqb (open_number a) 0) 1 0
   open_next = rw (after_test (open_number a) _ _) (risen _ a.table (eqb (open_number a) 0) refl)

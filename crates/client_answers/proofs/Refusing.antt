@@ -1,34 +1,25 @@
 -- An answer other than its enum's first, as a `let .. else` tells it, has a number.
-use mathlib.Core.List.{[], ◌∷◌}
-use Prim.Native.Nat.{◌<◌}
-use native.Mathlib.Omega.{arith}
-use types.Run.{OneOf, miss}
-use denote.Enum.Declared.{tag_of}
+use Rattle.std.proofs.Common.{◌≡◌, ℕ, ◌<◌, refl, arith}
 use Rattle.client_answers.specs.declared.table.Making.{Making}
 use Rattle.client_answers.specs.declared.table.Making.TheVariants as making
-use Rattle.client_answers.specs.contracts.table.Making as making-type
 use Rattle.client_answers.specs.Table.{making_number}
 use Rattle.client_answers.specs.declared.open.Opening.{Opening}
 use Rattle.client_answers.specs.declared.open.Opening.TheVariants as opening
-use Rattle.client_answers.specs.contracts.«open».Opening as opening-type
 use Rattle.client_answers.specs.Open.{opening_number}
 use Rattle.client_answers.specs.declared.reply.Replying.{Replying}
 use Rattle.client_answers.specs.declared.reply.Replying.TheVariants as replying
-use Rattle.client_answers.specs.contracts.reply.Replying as replying-type
 use Rattle.client_answers.specs.Reply.{replying_number}
 use Rattle.client_answers.specs.declared.discard.Discarding.{Discarding}
 use Rattle.client_answers.specs.declared.discard.Discarding.TheVariants as discarding
-use Rattle.client_answers.specs.contracts.discard.Discarding as discarding-type
 use Rattle.client_answers.specs.Discard.{discarding_number}
 
-pub making_refusing : (a : Making) → OneOf (1 ∷ 2 ∷ []) (tag_of making-type.the_type a) → 0 < making_number a
-making_refusing making.Done h = absurd (miss (1 ∷ 2 ∷ []) 0 tt h)
+pub making_refusing : (a : Making) → (a ≡ making.Done → ⊥) → 0 < making_number a
+making_refusing making.Done h = absurd (h refl)
 making_refusing making.Width h = omega arith
 making_refusing making.Shape h = omega arith
 
-pub opening_refusing : (a : Opening) → OneOf (1 ∷ 2 ∷ 3 ∷ 4 ∷ 5 ∷ 6 ∷ 7 ∷ 8 ∷ 9 ∷ []) (tag_of opening-type.the_type a)
-    → 0 < opening_number a
-opening_refusing (opening.Ticket ticket read) h = absurd (miss (1 ∷ 2 ∷ 3 ∷ 4 ∷ 5 ∷ 6 ∷ 7 ∷ 8 ∷ 9 ∷ []) 0 tt h)
+pub opening_refusing : (a : Opening) → ((ticket read : ℕ) → a ≡ opening.Ticket ticket read → ⊥) → 0 < opening_number a
+opening_refusing (opening.Ticket ticket read) h = absurd (h ticket read refl)
 opening_refusing opening.Table h = omega arith
 opening_refusing opening.Shape h = omega arith
 opening_refusing opening.Interval h = omega arith
@@ -39,9 +30,8 @@ opening_refusing opening.Numbers h = omega arith
 opening_refusing opening.Short h = omega arith
 opening_refusing (opening.Wraps read) h = omega arith
 
-pub replying_refusing : (a : Replying) → OneOf (1 ∷ 2 ∷ 3 ∷ 4 ∷ 5 ∷ 6 ∷ 7 ∷ []) (tag_of replying-type.the_type a)
-    → 0 < replying_number a
-replying_refusing (replying.Value length) h = absurd (miss (1 ∷ 2 ∷ 3 ∷ 4 ∷ 5 ∷ 6 ∷ 7 ∷ []) 0 tt h)
+pub replying_refusing : (a : Replying) → ((length : ℕ) → a ≡ replying.Value length → ⊥) → 0 < replying_number a
+replying_refusing (replying.Value length) h = absurd (h length refl)
 replying_refusing replying.Table h = omega arith
 replying_refusing replying.Shape h = omega arith
 replying_refusing replying.NotPending h = omega arith
@@ -50,8 +40,8 @@ replying_refusing replying.Element h = omega arith
 replying_refusing replying.Marker h = omega arith
 replying_refusing replying.Digest h = omega arith
 
-pub discarding_refusing : (a : Discarding) → OneOf (1 ∷ 2 ∷ 3 ∷ []) (tag_of discarding-type.the_type a) → 0 < discarding_number a
-discarding_refusing discarding.Done h = absurd (miss (1 ∷ 2 ∷ 3 ∷ []) 0 tt h)
+pub discarding_refusing : (a : Discarding) → (a ≡ discarding.Done → ⊥) → 0 < discarding_number a
+discarding_refusing discarding.Done h = absurd (h refl)
 discarding_refusing discarding.Table h = omega arith
 discarding_refusing discarding.Shape h = omega arith
 discarding_refusing discarding.NotPending h = omega arith

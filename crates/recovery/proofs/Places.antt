@@ -1,6 +1,6 @@
 -- A sum over the rows that are among good positions is the sum over those positions, however many.
 use mathlib.Core.Path.{◌≡◌, refl, sym, ◌∙◌}
-use mathlib.Core.Bool.{Bool, false, cond, or-true, or_false}
+use mathlib.Core.Bool.{Bool, false, cond, or-true, or-false}
 use mathlib.Core.List.{List}
 use Prim.Native.Nat.{ℕ, zero, suc, ◌*◌, ◌<◌, ◌≤◌}
 use native.Mathlib.Nat.{zero-mul}
@@ -56,7 +56,7 @@ module _ (r : ℕ) (ps : List ℕ) (good : positions_bad r ps ≡ false) (f : �
           sum_ext r (λ i. cond (eqb i p) 0 (picked (suc k) i)) (λ i. cond (eqb i p) 0 (picked k i))
           (λ i _. elim (ℕ_discrete i p) [
             | yes e ↦ rw (eq-eqb i p e)
-            | no n ↦ rw (ne_eqb p i (λ e. n (sym e)), or_false (early k i))
+            | no n ↦ rw (ne_eqb p i (λ e. n (sym e)), or-false (early k i))
           ])
 
       before : picked k p ≡ 0

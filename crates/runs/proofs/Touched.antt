@@ -1,6 +1,6 @@
 -- An event writes no slot but those that it touches, and a slot that it touches has no ticket then but one that it opened.
 use mathlib.Core.Path.{◌≡◌, refl, sym, ◌∙◌}
-use mathlib.Core.Bool.{Bool, true, false, true≢false, or_false}
+use mathlib.Core.Bool.{Bool, true, false, true≢false, or-false}
 use mathlib.Core.List.{List}
 use Prim.Native.Nat.{ℕ, ◌+◌, ◌*◌, ◌<◌}
 use native.Mathlib.Omega.{arith}
@@ -81,4 +81,4 @@ module _ {b columns : ℕ} where
             → 0 < o t + o' t
         by_test true g kept second first = omega (arith, second g)
         by_test false g kept second first =
-            omega (arith, first (rw (g, or_false (p q)) at e) (sym (kept g).table.number ∙ has))
+            omega (arith, first (rw (g, or-false (p q)) at e) (sym (kept g).table.number ∙ has))

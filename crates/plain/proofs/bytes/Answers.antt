@@ -1,6 +1,6 @@
 -- The reader's first step: its tests, and what a refusal and what success say.
 use Rattle.std.proofs.Common.{◌≡◌, ℕ, ◌+◌, ◌-◌, ◌*◌, ◌<◌, ◌≤◌, Bool, true, false, not, ◌||◌, eqb, ltb, List, [], ◌∷◌, length, sym, refl, ap, ◌∙◌, ap₂, arith, ltb-false, eq-eqb, ne_eqb, eqb-true}
-use mathlib.Core.Bool.{or_false}
+use mathlib.Core.Bool.{or-false}
 use borrow.Author.Tests.{not-false}
 use Rattle.laws.specs.Refusals.{◌⇒◌, first, outside}
 use Rattle.laws.proofs.Refusals.{neither, passed, same_test, kept, written}
@@ -27,7 +27,7 @@ unfolding matrix_bad
 size_test rows columns lent room e =
     let sides = outside 1 4096 rows || outside 1 4096 columns in
     ap (λ (t : Bool). t || ltb room (rows * columns))
-    (ap (λ (t : Bool). sides || not t) (eq-eqb lent (rows * columns) e) ∙ or_false sides)
+    (ap (λ (t : Bool). sides || not t) (eq-eqb lent (rows * columns) e) ∙ or-false sides)
 
 module _ (bytes : List ℕ) (room : ℕ) where
   -- the answer's number by two tests, of which the second matters only where the first does not hold

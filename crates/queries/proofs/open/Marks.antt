@@ -1,6 +1,6 @@
 -- Δ at the positions: when an entry wraps there, and what one mark more makes of a query.
 use mathlib.Core.Path.{◌≡◌, refl, sym, ap, ◌∙◌}
-use mathlib.Core.Bool.{Bool, false, cond, or-true, or_false}
+use mathlib.Core.Bool.{Bool, false, cond, or-true, or-false}
 use mathlib.Core.List.{List}
 use Prim.Native.Nat.{ℕ, ◌+◌, ◌-◌, ◌^◌, ◌<◌, ◌≤◌}
 use native.Mathlib.Nat.{add-zero}
@@ -89,7 +89,7 @@ module _ (d : ℕ) (ps q : List ℕ) where
     one_marked =
         build-set (length q) (entry d ps q s) (entry d ps q (s + 1)) (get_or ps s 0) _ (below (length q) ps good s h)
         (rw (add-one s, entry_kept, eq-eqb (get_or ps s 0) (get_or ps s 0) refl, or-true (some s (λ k. eqb (get_or ps k 0) (get_or ps s 0)))))
-        (λ j n. rw (add-one s, ne_eqb (get_or ps s 0) j n, or_false (some s (λ k. eqb (get_or ps k 0) j))))
+        (λ j n. rw (add-one s, ne_eqb (get_or ps s 0) j n, or-false (some s (λ k. eqb (get_or ps k 0) j))))
 
 -- at all of them
 pub all_marked : (b : ℕ) (ps q : List ℕ) → partly_marked (delta b) ps q (length ps) ≡ marked b ps q

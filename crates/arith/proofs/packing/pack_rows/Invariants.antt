@@ -1,0 +1,12 @@
+-- Each turn packs one row more.
+use Rattle.std.proofs.Common.{◌-◌, ◌≤◌}
+use Rattle.laws.specs.Lists.{join, row}
+use Rattle.laws.proofs.Filling.{Filled}
+use Rattle.arith.specs.Packing.{pack_row}
+use Rattle.arith.proofs.packing.pack_rows.Given as goal
+
+abbrev pub invariant-loop-j : goal.invariant-loop-j
+invariant-loop-j l = (l.j ≤ l.rows) × Filled (join l.j (λ i. pack_row l.b (row l.k l.words i))) l.initial.out l.out
+
+abbrev pub decreases-loop-j : goal.decreases-loop-j
+decreases-loop-j l = l.rows - l.j
