@@ -3,7 +3,7 @@ ghost use Rattle.std.specs.Prelude.{◌≡◌};
 ghost use Rattle.answers.specs.Bytes.{parsing_number, parsing_rows, parsing_columns};
 
 // What the matrix-bytes reader answers.
-#[derive(Drop)]
+#[derive(Clone, Copy)]
 pub enum Parsing {
     // 0: the words are written; rows and columns.
     Matrix(usize, usize),
@@ -15,7 +15,7 @@ pub enum Parsing {
 
 // What it tells: rows and columns are 0 on a refusal.
 #[repr(C)]
-#[derive(Drop)]
+#[derive(Clone, Copy)]
 pub struct Parsed {
     pub number: u32,
     pub rows: usize,

@@ -3,7 +3,7 @@ ghost use Rattle.std.specs.Prelude.{◌≡◌};
 ghost use Rattle.answers.specs.Codec.{encoding_number, decoding_number, decoding_length};
 
 // What the row writer answers.
-#[derive(Drop)]
+#[derive(Clone, Copy)]
 pub enum Encoding {
     // 0: the row is written.
     Done,
@@ -27,7 +27,7 @@ pub fn told_encoding(answer: Encoding) -> u32
 }
 
 // What the row reader answers.
-#[derive(Drop)]
+#[derive(Clone, Copy)]
 pub enum Decoding {
     // 0: digest and value are written; the value's length.
     Value(usize),
@@ -43,7 +43,7 @@ pub enum Decoding {
 
 // What it tells: the value's length is 0 on a refusal.
 #[repr(C)]
-#[derive(Drop)]
+#[derive(Clone, Copy)]
 pub struct Decoded {
     pub number: u32,
     pub length: usize,

@@ -3,7 +3,7 @@ ghost use Rattle.std.specs.Prelude.{◌≡◌};
 ghost use Rattle.answers.specs.Database.{building_number};
 
 // What the builder answers.
-#[derive(Drop)]
+#[derive(Clone, Copy)]
 pub enum Building {
     // 0: the database is written.
     Done,

@@ -3,7 +3,7 @@ ghost use Rattle.std.specs.Prelude.{◌≡◌};
 ghost use Rattle.answers.specs.Lines.{writing_number, writing_length, reading_number, reading_ticket, reading_columns};
 
 // What the line writer answers.
-#[derive(Drop)]
+#[derive(Clone, Copy)]
 pub enum Writing {
     // 0: the line is written; its length, LF included.
     Line(usize),
@@ -15,7 +15,7 @@ pub enum Writing {
 
 // What it tells: the line's length, LF included, is 0 on a refusal.
 #[repr(C)]
-#[derive(Drop)]
+#[derive(Clone, Copy)]
 pub struct LineWritten {
     pub number: u32,
     pub length: usize,
@@ -38,7 +38,7 @@ pub fn told_writing(answer: Writing) -> LineWritten
 }
 
 // What the line reader answers.
-#[derive(Drop)]
+#[derive(Clone, Copy)]
 pub enum Reading {
     // 0: the words are written; the ticket, and how many words.
     Words(u32, usize),
@@ -50,7 +50,7 @@ pub enum Reading {
 
 // What it tells: ticket and count are 0 on a refusal.
 #[repr(C)]
-#[derive(Drop)]
+#[derive(Clone, Copy)]
 pub struct LineRead {
     pub number: u32,
     pub ticket: u32,

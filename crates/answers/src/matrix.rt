@@ -3,7 +3,7 @@ ghost use Rattle.std.specs.Prelude.{◌≡◌};
 ghost use Rattle.answers.specs.Matrix.{fitting_number};
 
 // What the plain product, the transpose and the matrix-bytes writer answer.
-#[derive(Drop)]
+#[derive(Clone, Copy)]
 pub enum Fitting {
     // 0: the output is written.
     Done,

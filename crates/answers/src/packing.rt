@@ -3,7 +3,7 @@ ghost use Rattle.std.specs.Prelude.{◌≡◌};
 ghost use Rattle.answers.specs.Packing.{packing_number};
 
 // What packing, unpacking and the packed product answer.
-#[derive(Drop)]
+#[derive(Clone, Copy)]
 pub enum Packing {
     // 0: the output is written.
     Done,

@@ -3,7 +3,7 @@ ghost use Rattle.std.specs.Prelude.{◌≡◌};
 ghost use Rattle.answers.specs.Sampler.{sampling_number, sampling_read};
 
 // What the sampler answers.
-#[derive(Drop)]
+#[derive(Clone, Copy)]
 pub enum Sampling {
     // 0: the output is written; the count of words read, skipped ones included.
     Read(usize),
@@ -17,7 +17,7 @@ pub enum Sampling {
 
 // What it tells: the count of words read is 0 on a refusal.
 #[repr(C)]
-#[derive(Drop)]
+#[derive(Clone, Copy)]
 pub struct Sampled {
     pub number: u32,
     pub read: usize,

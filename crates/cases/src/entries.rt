@@ -80,7 +80,7 @@ fn start(w: &Words, k: usize) -> usize {
 }
 
 // The places from `from` to before `end`.
-#[derive(Drop)]
+#[derive(Clone, Copy)]
 pub(crate) struct Span {
     pub(crate) from: usize,
     pub(crate) end: usize,

@@ -14,7 +14,7 @@ pub(crate) type Sizes = [usize; ROOM];
 pub(crate) type Words = [u32; ROOM];
 
 // A number, how often it stands there, and where it ends.
-#[derive(Drop)]
+#[derive(Clone, Copy)]
 struct Run {
     x: usize,
     times: usize,
@@ -22,7 +22,7 @@ struct Run {
 }
 
 // Where the next number goes, and where in the line reading goes on: not further, if the line is no call.
-#[derive(Drop)]
+#[derive(Clone, Copy)]
 struct Place {
     at: usize,
     end: usize,

@@ -3,7 +3,7 @@ ghost use Rattle.std.specs.Prelude.{◌≡◌};
 ghost use Rattle.client_answers.specs.Discard.{discarding_number};
 
 // What a discard answers.
-#[derive(Drop)]
+#[derive(Clone, Copy)]
 pub enum Discarding {
     // 0: the ticket is closed.
     Done,

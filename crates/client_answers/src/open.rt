@@ -3,7 +3,7 @@ ghost use Rattle.std.specs.Prelude.{◌≡◌};
 ghost use Rattle.client_answers.specs.Open.{opening_number, opening_ticket, opening_read};
 
 // What an open answers.
-#[derive(Drop)]
+#[derive(Clone, Copy)]
 pub enum Opening {
     // 0: the ticket, and the count of words read over both samples.
     Ticket(u32, usize),
@@ -29,7 +29,7 @@ pub enum Opening {
 
 // What it tells: the ticket is 0 on a refusal, and so is the count of words read, but for 6.
 #[repr(C)]
-#[derive(Drop)]
+#[derive(Clone, Copy)]
 pub struct OpenTold {
     pub number: u32,
     pub ticket: u32,

@@ -3,7 +3,7 @@ ghost use Rattle.std.specs.Prelude.{◌≡◌};
 ghost use Rattle.client_answers.specs.Reply.{replying_number, replying_length};
 
 // What a reply answers.
-#[derive(Drop)]
+#[derive(Clone, Copy)]
 pub enum Replying {
     // 0: the value's length; the ticket is closed.
     Value(usize),
@@ -25,7 +25,7 @@ pub enum Replying {
 
 // What it tells: the value's length is 0 on a refusal.
 #[repr(C)]
-#[derive(Drop)]
+#[derive(Clone, Copy)]
 pub struct ReplyTold {
     pub number: u32,
     pub length: usize,

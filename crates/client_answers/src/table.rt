@@ -3,7 +3,7 @@ ghost use Rattle.std.specs.Prelude.{◌≡◌};
 ghost use Rattle.client_answers.specs.Table.{making_number};
 
 // What `fresh` answers.
-#[derive(Drop)]
+#[derive(Clone, Copy)]
 pub enum Making {
     // 0: the table is as 01 says.
     Done,

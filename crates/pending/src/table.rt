@@ -20,7 +20,7 @@ pub const DIGEST_BYTES: usize = 32 * SLOTS;
 pub const NUMBERS_END: u32 = 4294967295;
 
 #[repr(C)]
-#[derive(Drop)]
+#[derive(Clone, Copy)]
 pub struct Table {
     pub b: u32,
     // C, the words of a row and of a slot's secret.
@@ -34,7 +34,7 @@ pub struct Table {
 }
 
 // On a refusal the table is all zero, which no entry accepts.
-#[derive(Drop)]
+#[derive(Clone, Copy)]
 pub struct Made {
     pub answer: Making,
     pub table: Table,

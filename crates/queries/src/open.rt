@@ -21,7 +21,7 @@ use pending::table::Table;
 use plain::matrix;
 use tickets::slots;
 
-#[derive(Drop)]
+#[derive(Clone, Copy)]
 pub struct Opened {
     pub answer: Opening,
     pub table: Table,

@@ -8,7 +8,7 @@ use pending::table;
 use pending::table::Table;
 use tickets::slots;
 
-#[derive(Drop)]
+#[derive(Clone, Copy)]
 pub struct Discarded {
     pub answer: Discarding,
     pub table: Table,

@@ -20,7 +20,7 @@ use tickets::slots;
 // The longest value of all: C 512 and b 14.
 const VALUE_MOST: usize = limits::COLUMNS_MOST * limits::WIDTH_MOST / 8 - codec::BESIDE_VALUE;
 
-#[derive(Drop)]
+#[derive(Clone, Copy)]
 pub struct Replied {
     pub answer: Replying,
     pub table: Table,

@@ -1,4 +1,2 @@
 -- Laws of the packed view, and what the walks of its functions share.
 pub mod Transposed
-pub mod Answers
-pub mod Walk

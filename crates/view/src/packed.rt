@@ -9,7 +9,7 @@ ghost use Rattle.view.specs.Packed.{viewed, factors_with};
 use arith::packing::Packing;
 use arith::{packing, product};
 
-#[derive(Drop)]
+#[derive(Clone, Copy)]
 pub struct PackedMatrix<'a> {
     pub words: &'a [u32],
     pub rows: usize,

@@ -1,0 +1,9 @@
+-- The word's four bytes, and then their digits.
+use mathlib.Core.Path.{ap, ◌∙◌}
+use Rattle.frames.specs.Lines.{hex}
+use Rattle.frames.proofs.lines.put_word_digits.Goals as goal
+use Rattle.frames.proofs.lines.put_word_digits.Goals.{After-put_bytes_digits, After-put_word}
+
+pub returns : goal.returns
+returns c =
+    c.put_bytes_digits.ensures ∙ ap hex c.put_word.ensures
