@@ -1,9 +1,9 @@
 -- The lengths of a table's arrays: a function is told them on entry, and no call changes them.
-use mathlib.Core.Path.{◌≡◌, sym, ◌∙◌}
+use mathlib.Core.Path.{◌≡◌, ◌∙◌}
 use mathlib.Core.List.{List}
 use Prim.Native.Nat.{ℕ, ◌+◌, ◌*◌, ◌<◌}
 use native.Mathlib.Omega.{arith}
-use lib.ListN.{length, replicate, length-set, length-map, length-replicate}
+use lib.ListN.{length, replicate, length-set, length-replicate}
 use mir.Val.{Val}
 use denote.Laws.{Is}
 use denote.Struct.Declared.{row}
@@ -18,8 +18,8 @@ pub sized : (t : Table) (vs : List Val) → Is (row the_type) t vs → Sized t
 sized t vs p =
     let arrays = p.1.1.1.1.1 in
     record {
-      numbers = sym (length-map t.numbers (λ (v : ℕ). v)) ∙ arrays.0.1.0.1;
-      digests = sym (length-map t.digests (λ (v : ℕ). v)) ∙ arrays.1.0.1.0.1;
+      numbers = arrays.0.1.0.1;
+      digests = arrays.1.0.1.0.1;
     }
 
 -- a ticket number is a word, as a function is told on entry

@@ -1,0 +1,13 @@
+-- No slot before s is alike to one before it.
+use mathlib.Core.Path.{◌≡◌}
+use mathlib.Core.Bool.{false}
+use Prim.Native.Nat.{◌-◌, ◌≤◌}
+use Rattle.laws.specs.Search.{some}
+use Rattle.pending.proofs.table.Tests.{repeated}
+use Rattle.pending.proofs.table.any_alike.Given as goal
+
+abbrev pub invariant-loop-s : goal.invariant-loop-s
+invariant-loop-s l = (l.s ≤ 64) × (some l.s (repeated l.table) ≡ false)
+
+abbrev pub decreases-loop-s : goal.decreases-loop-s
+decreases-loop-s l = 64 - l.s
