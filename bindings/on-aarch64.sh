@@ -1,11 +1,10 @@
 #!/bin/sh
 # on-aarch64.sh DIR [WORDS]: bindings/run.sh, and then oracle/run.sh WORDS, as on an aarch64 machine; for an x86-64 Debian,
 # as root, by hand. DIR, which is new or empty, becomes an aarch64 Debian with a Rust compiler (about 1 GB), and DIR/work/main
-# a clone of this checkout as it is committed; a DIR of an earlier run is used again. Every program in it runs under qemu's
-# emulator of that processor, the kit's prover, its compiler and its own emulator among them: `uname -m` says aarch64, so the
-# two scripts do what they do on such a machine, a proof in about ten times the time and a build in more: one to two hours
-# in all. On this machine debootstrap and qemu-user-static are installed, and the emulator is made known to the kernel; both
-# stay.
+# a clone of this checkout as it is committed; a DIR of an earlier run is used again. The kit is x86-64: here it proves the
+# clone and makes its archive for aarch64, target/native. Every program in DIR runs under qemu's emulator of that processor:
+# `uname -m` says aarch64, so the two scripts, which are told where the archive is, do what they do on such a machine. On this
+# machine debootstrap and qemu-user-static are installed, and the emulator is made known to the kernel; both stay.
 set -eu
 say() { echo "on-aarch64: $*" >&2; exit 2; }
 [ $# -gt 0 ] || say "which folder?"
@@ -15,8 +14,8 @@ dir=$(cd "$1" && pwd)
 shift
 checkout=$(cd "$(dirname "$0")/.." && pwd)
 guide=$(rt doc)
-kit=$(dirname "$(dirname "$guide")")
-[ -d "$kit/on/aarch64" ] || say "the kit at $kit has nothing for aarch64"
+kit=$(dirname "$guide")
+"$kit/bin/rattle" build --help | grep -q aarch64-unknown-linux-gnu || say "the kit at $kit has nothing for aarch64"
 rust=${LADLETWIG_RUST_SOURCE:-$(dirname "$checkout")/shared/docs/src}
 suite=trixie # the first Debian with a Rust of 1.82 or later
 formats=/proc/sys/fs/binfmt_misc
@@ -40,7 +39,7 @@ make_system() {
 }
 
 make_house() {
-    mkdir -p "$dir/work" "$dir/$kit"
+    mkdir -p "$dir/work"
     if [ -d "$dir/work/main" ]; then
         git -C "$dir/work/main" pull --quiet --ff-only "$checkout"
     else
@@ -54,14 +53,14 @@ make_house() {
 emulate
 [ -e "$ready" ] || make_system
 make_house
-export dir kit
+"$dir/work/main/bindings/archive.sh" aarch64
+export dir
 # The mounts are seen by these processes alone, and end with them.
 unshare --mount sh -euc '
-    mount --bind "$kit" "$dir/$kit"
-    mount -o remount,bind,ro "$dir/$kit"
     mount -t proc proc "$dir/proc"
     mount --bind /dev "$dir/dev"
-    exec chroot "$dir" /usr/bin/env -i HOME=/root "PATH=$kit/bin:/usr/bin:/bin" sh -euc "
+    exec chroot "$dir" /usr/bin/env -i HOME=/root PATH=/usr/bin:/bin \
+        LADLETWIG_ARCHIVE_DIR=/work/main/target/native sh -euc "
         cd /work/main
         echo \"on \$(uname -m), with \$(rustc --version)\"
         bindings/run.sh
