@@ -13,16 +13,16 @@ encoding_number encoding.Width = 1
 encoding_number encoding.Shape = 2
 encoding_number encoding.TooLong = 16
 
-abbrev decoded_as : ℕ → ℕ → Decoded
-decoded_as number length = record { number = number; length = length }
+abbrev told : ℕ → ℕ → Decoded
+told number length = record { number = number; length = length }
 
 -- 01's number, and the value's length, which is 0 on a refusal
 abbrev pub told_decoding : Decoding → Decoded
-told_decoding (decoding.Value length) = decoded_as 0 length
-told_decoding decoding.Width = decoded_as 1 0
-told_decoding decoding.Shape = decoded_as 2 0
-told_decoding decoding.Element = decoded_as 17 0
-told_decoding decoding.Marker = decoded_as 13 0
+told_decoding (decoding.Value length) = told 0 length
+told_decoding decoding.Width = told 1 0
+told_decoding decoding.Shape = told 2 0
+told_decoding decoding.Element = told 17 0
+told_decoding decoding.Marker = told 13 0
 
 abbrev pub decoding_number : Decoding → ℕ
 decoding_number a = (told_decoding a).number

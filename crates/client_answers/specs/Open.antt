@@ -4,21 +4,21 @@ use Rattle.client_answers.specs.declared.open.Opening.{Opening}
 use Rattle.client_answers.specs.declared.open.Opening.TheVariants as opening
 use Rattle.client_answers.specs.declared.open.OpenTold.{OpenTold}
 
-abbrev opened_as : ℕ → ℕ → ℕ → OpenTold
-opened_as number ticket read = record { number = number; ticket = ticket; read = read }
+abbrev told : ℕ → ℕ → ℕ → OpenTold
+told number ticket read = record { number = number; ticket = ticket; read = read }
 
 -- 01's number, the ticket and the count of words read: 0 on a refusal, but for the count of 6
 abbrev pub told_opening : Opening → OpenTold
-told_opening (opening.Ticket ticket read) = opened_as 0 ticket read
-told_opening opening.Table = opened_as 18 0 0
-told_opening opening.Shape = opened_as 2 0 0
-told_opening opening.Interval = opened_as 4 0 0
-told_opening opening.Positions = opened_as 5 0 0
-told_opening opening.Pending = opened_as 7 0 0
-told_opening opening.Full = opened_as 8 0 0
-told_opening opening.Numbers = opened_as 9 0 0
-told_opening opening.Short = opened_as 3 0 0
-told_opening (opening.Wraps read) = opened_as 6 0 read
+told_opening (opening.Ticket ticket read) = told 0 ticket read
+told_opening opening.Table = told 18 0 0
+told_opening opening.Shape = told 2 0 0
+told_opening opening.Interval = told 4 0 0
+told_opening opening.Positions = told 5 0 0
+told_opening opening.Pending = told 7 0 0
+told_opening opening.Full = told 8 0 0
+told_opening opening.Numbers = told 9 0 0
+told_opening opening.Short = told 3 0 0
+told_opening (opening.Wraps read) = told 6 0 read
 
 abbrev pub opening_number : Opening → ℕ
 opening_number a = (told_opening a).number
