@@ -3,67 +3,69 @@ use super::entries::Span;
 use super::lend;
 use super::line::ROOM;
 use pending::table::Table;
+use std::io;
+use std::io::Write;
 
-pub(crate) fn text(s: &[u8]) {
-    io::write_all(libc::STDOUT_FILENO, s);
+pub(crate) fn text(rt: &impl Print, s: &[u8]) -> io::Result<()> {
+    io::writer(rt).write_all(s)
 }
 
-pub(crate) fn number(n: usize) {
-    io::print_decimal(libc::STDOUT_FILENO, n as u64);
+pub(crate) fn number(rt: &impl Print, n: usize) -> io::Result<()> {
+    print!(rt; "{n}")
 }
 
-pub(crate) fn truth(b: bool) {
+pub(crate) fn truth(rt: &impl Print, b: bool) -> io::Result<()> {
     if b {
-        text(b"true");
+        text(rt, b"true")
     } else {
-        text(b"false");
+        text(rt, b"false")
     }
 }
 
 // A value that comes back, after the number.
-pub(crate) fn value(n: usize) {
-    text(b" ");
-    number(n);
+pub(crate) fn value(rt: &impl Print, n: usize) -> io::Result<()> {
+    text(rt, b" ")?;
+    number(rt, n)
 }
 
 // 01's number, and a value.
-pub(crate) fn pair(x: u32, n: usize) {
-    number(x as usize);
-    value(n);
+pub(crate) fn pair(rt: &impl Print, x: u32, n: usize) -> io::Result<()> {
+    number(rt, x as usize)?;
+    value(rt, n)
 }
 
 // Writes the run of equal words from `start` to i, unless it goes on. Answers where the next run starts, or this one.
-fn item(xs: &[u32], start: usize, i: usize) -> usize {
+fn item(rt: &impl Print, xs: &[u32], start: usize, i: usize) -> io::Result<usize> {
     if xs.len() <= i {
-        return start;
+        return Ok(start);
     }
     if i < start {
-        return start;
+        return Ok(start);
     }
     let next = i + 1;
     if next < xs.len() {
         if xs[i] == xs[next] {
-            return start;
+            return Ok(start);
         }
     }
-    value(lend::size(xs[i]));
+    value(rt, lend::size(xs[i]))?;
     if start < i {
-        text(b"*");
-        number(next - start);
+        text(rt, b"*")?;
+        number(rt, next - start)?;
     }
-    next
+    Ok(next)
 }
 
 // [ 1 7*3 2 ] for 1, three times 7, and 2.
-pub(crate) fn list(xs: &[u32]) {
-    text(b" [");
+pub(crate) fn list(rt: &impl Print, xs: &[u32]) -> io::Result<()> {
+    text(rt, b" [")?;
     let mut start: usize = 0;
     let mut i: usize = 0;
     while i < xs.len() {
-        start = item(xs, start, i);
+        start = item(rt, xs, start, i)?;
         i += 1;
     }
-    text(b" ]");
+    text(rt, b" ]")
 }
 
 fn widen(xs: &[u8], out: &mut [u32]) {
@@ -78,16 +80,19 @@ fn widen(xs: &[u8], out: &mut [u32]) {
 }
 
 // Bytes, as a list.
-pub(crate) fn bytes(xs: &[u8]) {
+pub(crate) fn bytes(rt: &impl Print, xs: &[u8]) -> io::Result<()> {
     let mut wide = [0; ROOM];
     widen(xs, &mut wide);
-    list(lend::words(
-        &wide,
-        Span {
-            from: 0,
-            end: xs.len(),
-        },
-    ));
+    list(
+        rt,
+        lend::words(
+            &wide,
+            Span {
+                from: 0,
+                end: xs.len(),
+            },
+        ),
+    )
 }
 
 // Whether a character stands for itself in a text, or is LF.
@@ -106,39 +111,39 @@ fn all_readable(xs: &[u8]) -> bool {
     true
 }
 
-fn letter(c: u8) {
+fn letter(rt: &impl Print, c: u8) -> io::Result<()> {
     if c == 10 {
-        text(b"\\n");
+        text(rt, b"\\n")
     } else {
-        text(&[c]);
+        text(rt, &[c])
     }
 }
 
-fn quoted(xs: &[u8]) {
-    text(b" \"");
+fn quoted(rt: &impl Print, xs: &[u8]) -> io::Result<()> {
+    text(rt, b" \"")?;
     let mut i: usize = 0;
     while i < xs.len() {
-        letter(xs[i]);
+        letter(rt, xs[i])?;
         i += 1;
     }
-    text(b"\"");
+    text(rt, b"\"")
 }
 
 // A line of a protocol: a text where it can be, and else a list.
-pub(crate) fn line(xs: &[u8]) {
+pub(crate) fn line(rt: &impl Print, xs: &[u8]) -> io::Result<()> {
     if all_readable(xs) {
-        quoted(xs);
+        quoted(rt, xs)
     } else {
-        bytes(xs);
+        bytes(rt, xs)
     }
 }
 
-pub(crate) fn table(t: Table) {
-    value(t.b as usize);
-    value(t.columns);
-    value(t.next as usize);
+pub(crate) fn table(rt: &impl Print, t: Table) -> io::Result<()> {
+    value(rt, t.b as usize)?;
+    value(rt, t.columns)?;
+    value(rt, t.next as usize)?;
     let numbers = t.numbers;
-    list(&numbers);
+    list(rt, &numbers)?;
     let digests = t.digests;
-    bytes(&digests);
+    bytes(rt, &digests)
 }

@@ -4,13 +4,14 @@ use super::{lend, print};
 use abi_client::open::{Opened, Positions};
 use abi_client::{discard, open, reply, table};
 use pending::table::Table;
+use std::io;
 
-pub(crate) fn fresh(n: &Sizes, w: &Words) -> Table {
+pub(crate) fn fresh(rt: &impl Print, n: &Sizes, w: &Words) -> io::Result<Table> {
     let made = table::ladletwig_fresh(w[1], n[2]);
-    print::number(made.number as usize);
+    print::number(rt, made.number as usize)?;
     let t = made.table;
-    print::table(t);
-    t
+    print::table(rt, t)?;
+    Ok(t)
 }
 
 fn places(w: &Words) -> Positions {
@@ -49,7 +50,14 @@ fn asked(
 }
 
 // Secret, error and query are lent from copies of the line, one each.
-pub(crate) fn open(n: &Sizes, w: &Words, copy: Words, t: Table, slab: &mut [u32]) -> Table {
+pub(crate) fn open(
+    rt: &impl Print,
+    n: &Sizes,
+    w: &Words,
+    copy: Words,
+    t: Table,
+    slab: &mut [u32],
+) -> io::Result<Table> {
     let mut secrets = copy;
     let mut errors = copy;
     let mut queries = copy;
@@ -57,18 +65,18 @@ pub(crate) fn open(n: &Sizes, w: &Words, copy: Words, t: Table, slab: &mut [u32]
     let error = lend::part_mut(w, &mut errors, 5);
     let query = lend::part_mut(w, &mut queries, 6);
     let o = asked(n, w, t, slab, secret, error, query);
-    print::pair(o.number, o.ticket as usize);
-    print::value(o.read);
+    print::pair(rt, o.number, o.ticket as usize)?;
+    print::value(rt, o.read)?;
     let after = o.table;
-    print::table(after);
-    print::list(secret);
-    print::list(error);
-    print::list(query);
-    print::list(slab);
-    after
+    print::table(rt, after)?;
+    print::list(rt, secret)?;
+    print::list(rt, error)?;
+    print::list(rt, query)?;
+    print::list(rt, slab)?;
+    Ok(after)
 }
 
-pub(crate) fn reply(w: &Words, t: Table, slab: &mut [u32]) -> Table {
+pub(crate) fn reply(rt: &impl Print, w: &Words, t: Table, slab: &mut [u32]) -> io::Result<Table> {
     let mut values = lend::narrowed(w);
     let value = lend::bytes_mut(w, &mut values, 2);
     let r = reply::ladletwig_process_response(
@@ -79,21 +87,21 @@ pub(crate) fn reply(w: &Words, t: Table, slab: &mut [u32]) -> Table {
         lend::part(w, 1),
         value,
     );
-    print::pair(r.number, r.length);
+    print::pair(rt, r.number, r.length)?;
     let after = r.table;
-    print::table(after);
-    print::bytes(value);
-    print::list(slab);
-    after
+    print::table(rt, after)?;
+    print::bytes(rt, value)?;
+    print::list(rt, slab)?;
+    Ok(after)
 }
 
-pub(crate) fn discard(w: &Words, t: Table, slab: &mut [u32]) -> Table {
+pub(crate) fn discard(rt: &impl Print, w: &Words, t: Table, slab: &mut [u32]) -> io::Result<Table> {
     let d = discard::ladletwig_discard_query(t, slab, w[2]);
-    print::number(d.number as usize);
+    print::number(rt, d.number as usize)?;
     let after = d.table;
-    print::table(after);
-    print::list(slab);
-    after
+    print::table(rt, after)?;
+    print::list(rt, slab)?;
+    Ok(after)
 }
 
 fn with_number(numbers: [u32; 64], slot: usize, x: u32) -> [u32; 64] {
@@ -116,7 +124,7 @@ fn with_byte(digests: [u8; 2048], at: usize, x: u32) -> [u8; 2048] {
 
 // Not a call: makes the table one that no call gives. b, C and next are set, then a slot's number, then a byte of the
 // digests; a slot or a byte that there is none of leaves them as they are.
-pub(crate) fn set(n: &Sizes, w: &Words, t: Table) -> Table {
+pub(crate) fn set(rt: &impl Print, n: &Sizes, w: &Words, t: Table) -> io::Result<Table> {
     let numbers = t.numbers;
     let digests = t.digests;
     let numbers_then = with_number(numbers, n[4], w[5]);
@@ -128,9 +136,9 @@ pub(crate) fn set(n: &Sizes, w: &Words, t: Table) -> Table {
         numbers: numbers_then,
         digests: digests_then,
     };
-    print::text(b"set");
-    print::table(u);
-    u
+    print::text(rt, b"set")?;
+    print::table(rt, u)?;
+    Ok(u)
 }
 
 fn fill(slab: &mut [u32], x: u32) {
@@ -142,9 +150,9 @@ fn fill(slab: &mut [u32], x: u32) {
 }
 
 // Not a call: lays one value in every word of the slab.
-pub(crate) fn lay(w: &Words, t: Table, slab: &mut [u32]) -> Table {
+pub(crate) fn lay(rt: &impl Print, w: &Words, t: Table, slab: &mut [u32]) -> io::Result<Table> {
     fill(slab, w[1]);
-    print::text(b"slab");
-    print::list(slab);
-    t
+    print::text(rt, b"slab")?;
+    print::list(rt, slab)?;
+    Ok(t)
 }

@@ -5,17 +5,18 @@ use abi_arith::{codec, packing, product, sampler};
 use abi_builder::database;
 use abi_lines::lines;
 use abi_plain::{bytes, matrix};
+use std::io;
 
-fn sampled(w: &Words, out: &mut [u32]) {
+fn sampled(rt: &impl Print, w: &Words, out: &mut [u32]) -> io::Result<()> {
     let s = sampler::ladletwig_sample_from_uniform_ternary_dist(w[1], lend::part(w, 0), out);
-    print::pair(s.number, s.read);
+    print::pair(rt, s.number, s.read)
 }
 
-fn parsed(w: &Words, out: &mut [u32]) {
+fn parsed(rt: &impl Print, w: &Words, out: &mut [u32]) -> io::Result<()> {
     let lent = lend::narrowed(w);
     let p = bytes::ladletwig_from_bytes(lend::bytes(w, &lent, 0), out);
-    print::pair(p.number, p.rows);
-    print::value(p.columns);
+    print::pair(rt, p.number, p.rows)?;
+    print::value(rt, p.columns)
 }
 
 fn encoded(n: &Sizes, w: &Words, out: &mut [u32]) -> u32 {
@@ -43,11 +44,11 @@ fn built(n: &Sizes, w: &Words, out: &mut [u32]) -> u32 {
     )
 }
 
-fn received(w: &Words, out: &mut [u32]) {
+fn received(rt: &impl Print, w: &Words, out: &mut [u32]) -> io::Result<()> {
     let lent = lend::narrowed(w);
     let l = lines::ladletwig_read_response_line(lend::bytes(w, &lent, 0), out);
-    print::pair(l.number, l.ticket as usize);
-    print::value(l.columns);
+    print::pair(rt, l.number, l.ticket as usize)?;
+    print::value(rt, l.columns)
 }
 
 // The calls that answer with 01's number alone.
@@ -72,23 +73,32 @@ fn numbered(n: &Sizes, w: &Words, out: &mut [u32]) -> u32 {
 }
 
 // The sister gives no number: its answer begins with where the unread tail starts.
-fn told(n: &Sizes, w: &Words, out: &mut [u32]) {
+fn told(rt: &impl Print, n: &Sizes, w: &Words, out: &mut [u32]) -> io::Result<()> {
     match w[0] {
-        6 => sampled(w, out),
+        6 => sampled(rt, w, out),
         7 => {
             let lent = lend::part(w, 0);
-            print::number(sampler::ladletwig_sample_and_return_unread(w[1], lent, out));
+            print::number(
+                rt,
+                sampler::ladletwig_sample_and_return_unread(w[1], lent, out),
+            )
         }
-        9 => parsed(w, out),
-        16 => received(w, out),
-        _ => print::number(numbered(n, w, out) as usize),
+        9 => parsed(rt, w, out),
+        16 => received(rt, w, out),
+        _ => print::number(rt, numbered(n, w, out) as usize),
     }
 }
 
 // The last buffer, k, is the mutable one. It is lent from the copy of the line, whose length the prover knows by its type.
-pub(crate) fn answer(n: &Sizes, w: &Words, copy: Words, k: usize) {
+pub(crate) fn answer(
+    rt: &impl Print,
+    n: &Sizes,
+    w: &Words,
+    copy: Words,
+    k: usize,
+) -> io::Result<()> {
     let mut lent = copy;
     let out = lend::part_mut(w, &mut lent, k);
-    told(n, w, out);
-    print::list(out);
+    told(rt, n, w, out)?;
+    print::list(rt, out)
 }

@@ -4,6 +4,7 @@ use super::{print, store};
 use arith::packing::Packing;
 use frames::lines;
 use frames::lines::Reading;
+use std::io;
 use view::packed;
 
 // The product of a query with the store, as a view of its words: b 10, and 33 rows, each a column of D.
@@ -19,14 +20,17 @@ fn unpack(words: &[u32], out: &mut [u32]) -> Packing {
 }
 
 // One column of D, so that a reader sees what the host does.
-pub(crate) fn show() {
+pub(crate) fn show(rt: &impl Print) -> io::Result<()> {
     let mut elements = [0; 231];
     unpack(&store::packed(), &mut elements);
     let start: usize = 0;
     let end: usize = 7;
-    print::text(b"The host sees numbers without names, in its first column of 33:");
-    print::list(&elements[start..end]);
-    print::text(b"\n");
+    print::text(
+        rt,
+        b"The host sees numbers without names, in its first column of 33:",
+    )?;
+    print::list(rt, &elements[start..end])?;
+    print::text(rt, b"\n")
 }
 
 // The response to these words, under the query's ticket.
@@ -39,13 +43,13 @@ fn respond(ticket: u32, query: &[u32]) -> [u8; 291] {
 }
 
 // What is no query line is answered with zeros, which no terminal takes for a line.
-pub(crate) fn answer(query: [u8; 83]) -> [u8; 291] {
+pub(crate) fn answer(rt: &impl Print, query: [u8; 83]) -> io::Result<[u8; 291]> {
     let mut words = [0; 7];
     let Reading::Words(ticket, _) = lines::read_line(1, &query, &mut words) else {
-        return [0; 291];
+        return Ok([0; 291]);
     };
     let response = respond(ticket, &words);
-    print::text(b"  host      ");
-    print::text(&response);
-    response
+    print::text(rt, b"  host      ")?;
+    print::text(rt, &response)?;
+    Ok(response)
 }

@@ -1,28 +1,31 @@
 // Text and numbers on standard output.
+use std::io;
+use std::io::Write;
 
-pub(crate) fn text(s: &[u8]) {
-    io::write_all(libc::STDOUT_FILENO, s);
+pub(crate) fn text(rt: &impl Print, s: &[u8]) -> io::Result<()> {
+    io::writer(rt).write_all(s)
 }
 
-pub(crate) fn number(n: u32) {
-    io::print_decimal(libc::STDOUT_FILENO, n as u64);
+pub(crate) fn number(rt: &impl Print, n: u32) -> io::Result<()> {
+    print!(rt; "{n}")
 }
 
 // Each with a space before it.
-pub(crate) fn list(xs: &[u32]) {
+pub(crate) fn list(rt: &impl Print, xs: &[u32]) -> io::Result<()> {
     let mut i: usize = 0;
     while i < xs.len() {
-        text(b" ");
-        number(xs[i]);
+        text(rt, b" ")?;
+        number(rt, xs[i])?;
         i += 1;
     }
+    Ok(())
 }
 
 // The first n bytes, as they stand.
-pub(crate) fn front(bytes: &[u8], n: usize) {
+pub(crate) fn front(rt: &impl Print, bytes: &[u8], n: usize) -> io::Result<()> {
     if bytes.len() < n {
-        return;
+        return Ok(());
     }
     let start: usize = 0;
-    text(&bytes[start..n]);
+    text(rt, &bytes[start..n])
 }

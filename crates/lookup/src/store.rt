@@ -5,6 +5,7 @@ use arith::packing;
 use builder::database;
 use plain::matrix;
 use rows::codec;
+use std::io;
 
 // A member goes by a letter, which is also every byte of the digest.
 pub(crate) fn ada() -> u8 {
@@ -92,8 +93,9 @@ pub(crate) fn packed() -> [u32; 99] {
     words
 }
 
-pub(crate) fn show() {
+pub(crate) fn show(rt: &impl Print) -> io::Result<()> {
     print::text(
+        rt,
         b"The host's store: Ada 4.20, Ben 0.75, Cy 12.00, written as rows, placed and packed.\n",
-    );
+    )
 }

@@ -6,6 +6,7 @@ use client::{discard, lines, open, reply};
 use client_answers::discard::told_discarding;
 use client_answers::open::told_opening;
 use client_answers::reply::told_replying;
+use std::io;
 
 // The words that the random device gives to the opens, n and R to each. They are fixed, so that the run can be held to a
 // file; none is used twice.
@@ -51,62 +52,68 @@ fn drawn(open: u32) -> [u32; 10] {
 }
 
 // What a number says to the person at the till.
-fn meaning(number: u32) {
+fn meaning(rt: &impl Print, number: u32) -> io::Result<()> {
     match number {
-        2 => print::text(b"a length is wrong"),
-        3 => print::text(b"the random words end too soon"),
-        4 => print::text(b"the interval is outside its range"),
-        5 => print::text(b"the positions are bad"),
-        6 => print::text(b"an entry would wrap"),
-        7 => print::text(b"the digest is already pending"),
-        8 => print::text(b"no slot is free"),
-        9 => print::text(b"the ticket numbers are used up"),
-        10 => print::text(b"the ticket is not pending"),
-        11 => print::text(b"the line is malformed"),
-        12 => print::text(b"the response's length is wrong"),
-        13 => print::text(b"the row has no marker"),
-        14 => print::text(b"the digest is not the one asked for"),
-        17 => print::text(b"an element is too large"),
-        18 => print::text(b"the table is malformed"),
-        _ => print::text(b"a number that no call of a terminal gives"),
+        2 => print::text(rt, b"a length is wrong"),
+        3 => print::text(rt, b"the random words end too soon"),
+        4 => print::text(rt, b"the interval is outside its range"),
+        5 => print::text(rt, b"the positions are bad"),
+        6 => print::text(rt, b"an entry would wrap"),
+        7 => print::text(rt, b"the digest is already pending"),
+        8 => print::text(rt, b"no slot is free"),
+        9 => print::text(rt, b"the ticket numbers are used up"),
+        10 => print::text(rt, b"the ticket is not pending"),
+        11 => print::text(rt, b"the line is malformed"),
+        12 => print::text(rt, b"the response's length is wrong"),
+        13 => print::text(rt, b"the row has no marker"),
+        14 => print::text(rt, b"the digest is not the one asked for"),
+        17 => print::text(rt, b"an element is too large"),
+        18 => print::text(rt, b"the table is malformed"),
+        _ => print::text(rt, b"a number that no call of a terminal gives"),
     }
 }
 
-fn refused(number: u32) {
-    print::text(b"  refused   ");
-    print::number(number);
-    print::text(b", ");
-    meaning(number);
-    print::text(b"\n");
+fn refused(rt: &impl Print, number: u32) -> io::Result<()> {
+    print::text(rt, b"  refused   ")?;
+    print::number(rt, number)?;
+    print::text(rt, b", ")?;
+    meaning(rt, number)?;
+    print::text(rt, b"\n")
 }
 
 // The query line of a ticket, printed and kept.
-fn send(ticket: u32, query: &[u32], line: &mut [u8]) {
+fn send(rt: &impl Print, ticket: u32, query: &[u32], line: &mut [u8]) -> io::Result<()> {
     lines::write_query_line(ticket, query, line);
-    print::text(b"  ticket    ");
-    print::number(ticket);
-    print::text(b"\n  terminal  ");
-    print::text(line);
+    print::text(rt, b"  ticket    ")?;
+    print::number(rt, ticket)?;
+    print::text(rt, b"\n  terminal  ")?;
+    print::text(rt, line)
 }
 
 // The query line, or why there is none.
-fn asked(number: u32, ticket: u32, query: &[u32], line: &mut [u8]) {
+fn asked(
+    rt: &impl Print,
+    number: u32,
+    ticket: u32,
+    query: &[u32],
+    line: &mut [u8],
+) -> io::Result<()> {
     if number != 0 {
-        refused(number);
-        return;
+        return refused(rt, number);
     }
-    send(ticket, query, line);
+    send(rt, ticket, query, line)
 }
 
 // Opens a ticket for the row at one member's places under another's digest: the same member's, as a rule.
 pub(crate) fn ask(
+    rt: &impl Print,
     t: Table,
     slab: &mut [u32],
     at: u8,
     who: u8,
     open: u32,
     line: &mut [u8],
-) -> Table {
+) -> io::Result<Table> {
     let mut query = [0; 7];
     let opened = open::query_for_4_wise_xor_filter(
         t,
@@ -125,52 +132,57 @@ pub(crate) fn ask(
     );
     let answer = opened.answer;
     let told = told_opening(answer);
-    asked(told.number, told.ticket, &query, line);
-    opened.table
+    asked(rt, told.number, told.ticket, &query, line)?;
+    Ok(opened.table)
 }
 
-pub(crate) fn drop(t: Table, slab: &mut [u32], ticket: u32) -> Table {
+pub(crate) fn drop(rt: &impl Print, t: Table, slab: &mut [u32], ticket: u32) -> io::Result<Table> {
     let discarded = discard::discard_query(t, slab, ticket);
     let answer = discarded.answer;
     let number = told_discarding(answer);
     if number == 0 {
-        print::text(b"  discarded ");
-        print::number(ticket);
-        print::text(b"\n");
+        print::text(rt, b"  discarded ")?;
+        print::number(rt, ticket)?;
+        print::text(rt, b"\n")?;
     } else {
-        refused(number);
+        refused(rt, number)?;
     }
-    discarded.table
+    Ok(discarded.table)
 }
 
 // The value, or why there is none.
-fn show(number: u32, length: usize, value: &[u8]) {
+fn show(rt: &impl Print, number: u32, length: usize, value: &[u8]) -> io::Result<()> {
     if number != 0 {
-        refused(number);
-        return;
+        return refused(rt, number);
     }
-    print::text(b"  value     ");
-    print::front(value, length);
-    print::text(b"\n");
+    print::text(rt, b"  value     ")?;
+    print::front(rt, value, length)?;
+    print::text(rt, b"\n")
 }
 
 // A reply with what a line told.
-fn tell(t: Table, slab: &mut [u32], ticket: u32, words: &[u32]) -> Table {
+fn tell(
+    rt: &impl Print,
+    t: Table,
+    slab: &mut [u32],
+    ticket: u32,
+    words: &[u32],
+) -> io::Result<Table> {
     let mut value = [0; 8];
     let replied = reply::process_response(t, slab, ticket, words, &[600; 33], &mut value);
     let answer = replied.answer;
     let told = told_replying(answer);
-    show(told.number, told.length, &value);
-    replied.table
+    show(rt, told.number, told.length, &value)?;
+    Ok(replied.table)
 }
 
 // A line comes.
-pub(crate) fn come(t: Table, slab: &mut [u32], line: &[u8]) -> Table {
+pub(crate) fn come(rt: &impl Print, t: Table, slab: &mut [u32], line: &[u8]) -> io::Result<Table> {
     let mut words = [0; 33];
     let told = told_reading(lines::read_response_line(line, &mut words));
     if told.number != 0 {
-        refused(told.number);
-        return t;
+        refused(rt, told.number)?;
+        return Ok(t);
     }
-    tell(t, slab, told.ticket, &words)
+    tell(rt, t, slab, told.ticket, &words)
 }
