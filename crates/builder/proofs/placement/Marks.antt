@@ -7,9 +7,9 @@ use Rattle.leaves.specs.Positions.{among, positions_bad}
 use Rattle.builder.specs.Keys.{Keys, target}
 use Rattle.builder.specs.Placement.{seen_before, key_bad}
 
-or_false : (t : Bool) → (t || false) ≡ t
-or_false true = refl
-or_false false = refl
+or-false : (t : Bool) → (t || false) ≡ t
+or-false true = refl
+or-false false = refl
 
 -- the first n of the positions are marked, besides those that were
 pub record Marked (ps : List ℕ) (n : ℕ) (old new : List Bool) : Type 0 where
@@ -18,7 +18,7 @@ pub record Marked (ps : List ℕ) (n : ℕ) (old new : List Bool) : Type 0 where
 
 pub marked_none : (ps : List ℕ) (old : List Bool) → Marked ps 0 old old
 unfolding some
-marked_none ps old = record { long = refl; marked = λ q. sym (or_false (get_or old q false)) }
+marked_none ps old = record { long = refl; marked = λ q. sym (or-false (get_or old q false)) }
 
 pub marked_more : (ps : List ℕ) (n : ℕ) (old new : List Bool) → get_or ps n 0 < length old → Marked ps n old new
     → Marked ps (n + 1) old (set new (get_or ps n 0) true)
@@ -39,7 +39,7 @@ marked_more ps n old new h m = record {
         → get_or (set new (get_or ps n 0) true) q false
         ≡ (get_or old q false || (some n (λ s. eqb (get_or ps s 0) q) || eqb (get_or ps n 0) q))
     other q k =
-        rw (ne_eqb (get_or ps n 0) q k, or_false (some n (λ s. eqb (get_or ps s 0) q)))
+        rw (ne_eqb (get_or ps n 0) q k, or-false (some n (λ s. eqb (get_or ps s 0) q)))
         (get_or-set_other new (get_or ps n 0) q true false (λ e. k (sym e)) ∙ m.marked q)
 
 -- a mark is set exactly at the positions of the first n keys
