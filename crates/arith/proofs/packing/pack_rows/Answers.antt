@@ -1,4 +1,4 @@
-use Rattle.std.proofs.Common.{◌≡◌, ℕ, ◌+◌, ◌-◌, ◌*◌, ◌<◌, ◌≤◌, length, sym, ap, ◌∙◌, le_of_eq, arith, rules}
+use Rattle.std.proofs.Common.{◌≡◌, ℕ, ◌+◌, ◌*◌, ◌<◌, ◌≤◌, length, sym, ap, ◌∙◌, le_of_eq, arith, rules}
 use Rattle.laws.specs.Lists.{join, row}
 use Rattle.laws.proofs.Lists.{room, row_lent, length_part, length-row}
 use Rattle.laws.proofs.Filling.{filled_none, row_more}

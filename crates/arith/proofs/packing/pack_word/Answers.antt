@@ -1,4 +1,4 @@
-use Rattle.std.proofs.Common.{◌≡◌, ◌-◌, length, get_or, refl, arith}
+use Rattle.std.proofs.Common.{◌≡◌, length, get_or, refl, arith}
 use Rattle.laws.specs.Sums.{sum}
 use Rattle.arith.specs.Packing.{word_of}
 use Rattle.arith.proofs.packing.Slots.{at_start, at_next, in_word, shift_lt, fill}

@@ -1,4 +1,4 @@
-use Rattle.std.proofs.Common.{◌≡◌, ℕ, ◌+◌, ◌-◌, ◌*◌, ◌<◌, ◌≤◌, length, sym, ap, ◌∙◌, ap₂, arith, rules}
+use Rattle.std.proofs.Common.{◌≡◌, ℕ, ◌+◌, ◌*◌, ◌<◌, ◌≤◌, length, sym, ap, ◌∙◌, ap₂, arith, rules}
 use Rattle.laws.specs.Lists.{join, row, laid}
 use Rattle.laws.proofs.Lists.{room, row_lent, length_part}
 use Rattle.laws.proofs.Filling.{filled_none, row_more}

@@ -1,4 +1,4 @@
-use Rattle.std.proofs.Common.{◌≡◌, ℕ, ◌-◌, ◌*◌, ◌%◌, ◌^◌, ◌<◌, min, length, get_or, refl, ap, ◌∙◌, arith, rules}
+use Rattle.std.proofs.Common.{◌≡◌, ℕ, ◌*◌, ◌%◌, ◌^◌, ◌<◌, min, length, get_or, refl, ap, ◌∙◌, arith, rules}
 use Rattle.laws.specs.Sums.{sum}
 use Rattle.arith.specs.Packing.{words_of, element_of}
 use Rattle.arith.specs.Product.{entry_of}

@@ -1,4 +1,4 @@
-use Rattle.std.proofs.Common.{◌≡◌, ℕ, ◌-◌, ◌*◌, ◌%◌, ◌^◌, length, get_or, refl, ap, ◌∙◌, add-one, arith}
+use Rattle.std.proofs.Common.{◌≡◌, ℕ, ◌*◌, ◌%◌, ◌^◌, length, get_or, refl, ap, ◌∙◌, add-one, arith}
 use Rattle.laws.specs.Sums.{sum}
 use Rattle.laws.proofs.Sums.{cong_wrap, wrap_add}
 use Rattle.arith.specs.Packing.{slot}

@@ -1,4 +1,4 @@
-use Rattle.std.proofs.Common.{◌≡◌, ℕ, ◌-◌, length, refl, add-one, arith, rules}
+use Rattle.std.proofs.Common.{◌≡◌, ℕ, length, refl, add-one, arith, rules}
 use Rattle.laws.specs.Sums.{sum}
 use Rattle.laws.proofs.Sums.{cong_eq, wrap_add}
 use Rattle.builder.proofs.database.others_sum.Invariants.{term}

@@ -1,8 +1,7 @@
-use Rattle.std.proofs.Common.{◌≡◌, ℕ, ◌-◌, arith, rules}
+use Rattle.std.proofs.Common.{◌≡◌, ℕ, arith, rules}
 use Rattle.laws.specs.Lists.{build}
 use Rattle.laws.proofs.Lists.{length-build}
 use Rattle.laws.proofs.Filling.{filled_none, filled_whole, word_more}
-use Rattle.builder.specs.Database.{others_sum}
 use Rattle.builder.proofs.database.rest.Invariants.{column}
 use Rattle.builder.proofs.database.rest.Goals as goal
 use Rattle.builder.proofs.database.rest.Goals.{In-loop-j}

@@ -1,4 +1,4 @@
-use Rattle.std.proofs.Common.{◌≡◌, ◌-◌, length, arith, rules}
+use Rattle.std.proofs.Common.{◌≡◌, length, arith, rules}
 use Rattle.leaves.specs.Positions.{among}
 use Rattle.builder.proofs.placement.Marks.{marked_none, marked_more}
 use Rattle.builder.proofs.placement.mark.Goals as goal

@@ -1,4 +1,4 @@
-use Rattle.std.proofs.Common.{◌≡◌, ℕ, ◌-◌, false, ◌||◌, length, get_or, sym, ◌∙◌, arith, rules}
+use Rattle.std.proofs.Common.{◌≡◌, ℕ, false, ◌||◌, length, get_or, sym, ◌∙◌, arith, rules}
 use lib.ListN.{length-replicate}
 use Rattle.laws.proofs.Lists.{room}
 use Rattle.laws.proofs.Search.{some_none, some_more, some_holds}

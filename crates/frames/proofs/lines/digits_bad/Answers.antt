@@ -1,12 +1,11 @@
 use mathlib.Core.Path.{◌≡◌, sym, ◌∙◌}
-use mathlib.Core.Bool.{false}
 use Prim.Native.Nat.{◌-◌}
 use native.Mathlib.Omega.{arith}
 use lib.ListN.{length}
 use borrow.Author.Rules.{rules}
 use borrow.Author.Tests.{eq-eqb, ne_eqb}
 use Rattle.laws.proofs.Search.{some_none, some_more, some_holds}
-use Rattle.frames.specs.Lines.{digit_value, digits_bad}
+use Rattle.frames.specs.Lines.{digits_bad}
 use Rattle.frames.proofs.lines.digits_bad.Invariants.{none_at}
 use Rattle.frames.proofs.lines.digits_bad.Goals as goal
 use Rattle.frames.proofs.lines.digits_bad.Goals.{In-loop-i}

@@ -1,9 +1,9 @@
 use mathlib.Core.Path.{◌≡◌, refl, ap, ◌∙◌}
-use Prim.Native.Nat.{◌+◌, ◌*◌, ◌-◌, ◌≤◌}
+use Prim.Native.Nat.{◌+◌, ◌*◌, ◌≤◌}
 use native.Mathlib.Omega.{arith}
 use lib.ListN.{length, get_or}
 use borrow.Author.Rules.{rules}
-use Rattle.laws.specs.Lists.{join, part}
+use Rattle.laws.specs.Lists.{join}
 use Rattle.laws.proofs.Lists.{room, row_lent, length_part}
 use Rattle.laws.proofs.Filling.{filled_none, filled_whole, row_more}
 use Rattle.frames.specs.Lines.{hex}

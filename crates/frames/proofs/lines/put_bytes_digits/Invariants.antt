@@ -1,7 +1,7 @@
 -- Each turn writes one byte more.
 use Prim.Native.Nat.{◌-◌, ◌≤◌}
 use lib.ListN.{length, get_or}
-use Rattle.laws.specs.Lists.{join, part}
+use Rattle.laws.specs.Lists.{join}
 use Rattle.laws.proofs.Filling.{Filled}
 use Rattle.frames.proofs.lines.Hex.{digits}
 use Rattle.frames.proofs.lines.put_bytes_digits.Given as goal

@@ -1,6 +1,5 @@
 use mathlib.Core.Path.{◌≡◌, sym, ap₂, ◌∙◌}
-use mathlib.Core.Bool.{true, false, ◌||◌, or-true}
-use Prim.Native.Nat.{◌-◌}
+use mathlib.Core.Bool.{true, ◌||◌, or-true}
 use native.Mathlib.Omega.{arith}
 use lib.ListN.{length}
 use borrow.Author.Rules.{rules}

@@ -1,6 +1,5 @@
 use mathlib.Core.Path.{◌≡◌, sym, ◌∙◌}
 use mathlib.Core.Bool.{true, false}
-use Prim.Native.Nat.{◌-◌}
 use native.Mathlib.Omega.{arith}
 use borrow.Author.Rules.{rules}
 use borrow.Author.Tests.{eq-eqb, ne_eqb}
@@ -32,11 +31,11 @@ loop-s-preserved c =
     let n = number_at a.table l.s in
     let not-here : holding a.table a.digest l.s ≡ false =
     elim c.else-table-s-ne0.branch [
-      else-table-s-ne0-via-then-table-s-ne0+else-not-digest_differs w ↦
-        let apart : differs (digest_at a.table l.s) a.digest ≡ true =
-        rw (← w.digest_of.ensures) (sym w.digest_differs.ensures ∙ w.if-not-digest_differs.false) in
-        simp (ne_eqb n 0 w.if-table-s-ne0.true, apart)
-    | else-table-s-ne0-via-else-table-s-ne0 w ↦ simp (eq-eqb n 0 w.if-table-s-ne0.false)
+      | else-table-s-ne0-via-then-table-s-ne0+else-not-digest_differs w ↦
+          let apart : differs (digest_at a.table l.s) a.digest ≡ true =
+          rw (← w.digest_of.ensures) (sym w.digest_differs.ensures ∙ w.if-not-digest_differs.false) in
+          simp (ne_eqb n 0 w.if-table-s-ne0.true, apart)
+      | else-table-s-ne0-via-else-table-s-ne0 w ↦ simp (eq-eqb n 0 w.if-table-s-ne0.false)
     ] in
     (omega arith, some_more (holding a.table a.digest) l.s l.invariant.1 not-here)
 

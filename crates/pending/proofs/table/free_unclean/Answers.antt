@@ -1,6 +1,5 @@
 use mathlib.Core.Path.{◌≡◌, sym, ◌∙◌}
 use mathlib.Core.Bool.{true, false}
-use Prim.Native.Nat.{◌-◌}
 use native.Mathlib.Omega.{arith}
 use lib.ListN.{replicate}
 use borrow.Author.Rules.{rules}
@@ -32,11 +31,11 @@ loop-s-preserved c =
     let n = number_at t l.s in
     let not-here : unclean t l.s ≡ false =
     elim c.else-table-s-eq0.branch [
-      else-table-s-eq0-via-then-table-s-eq0+else-digest_differs w ↦
-        let zeroed : differs (digest_at t l.s) (replicate 32 0) ≡ false =
-        rw (← w.digest_of.ensures) (sym w.digest_differs.ensures ∙ w.if-digest_differs.false) in
-        simp (eq-eqb n 0 w.if-table-s-eq0.true, zeroed)
-    | else-table-s-eq0-via-else-table-s-eq0 w ↦ simp (ne_eqb n 0 w.if-table-s-eq0.false)
+      | else-table-s-eq0-via-then-table-s-eq0+else-digest_differs w ↦
+          let zeroed : differs (digest_at t l.s) (replicate 32 0) ≡ false =
+          rw (← w.digest_of.ensures) (sym w.digest_differs.ensures ∙ w.if-digest_differs.false) in
+          simp (eq-eqb n 0 w.if-table-s-eq0.true, zeroed)
+      | else-table-s-eq0-via-else-table-s-eq0 w ↦ simp (ne_eqb n 0 w.if-table-s-eq0.false)
     ] in
     (omega arith, some_more (unclean t) l.s l.invariant.1 not-here)
 

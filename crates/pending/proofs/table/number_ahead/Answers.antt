@@ -1,6 +1,5 @@
 use mathlib.Core.Path.{◌≡◌, sym}
 use mathlib.Core.Bool.{false}
-use Prim.Native.Nat.{◌-◌}
 use native.Mathlib.Omega.{arith}
 use borrow.Author.Rules.{rules}
 use borrow.Author.Tests.{eq-eqb, ne_eqb, le-leb, lt-leb}
@@ -28,8 +27,8 @@ loop-s-preserved c =
     let n = number_at t l.s in
     let not-here : ahead t l.s ≡ false =
     elim c.else-table-s-ne0.branch [
-      else-table-s-ne0-via-then-table-s-ne0+else-table-s w ↦ simp (ne_eqb n 0 w.if-table-s-ne0.true, lt-leb _ _ w.if-table-s.false)
-    | else-table-s-ne0-via-else-table-s-ne0 w ↦ simp (eq-eqb n 0 w.if-table-s-ne0.false)
+      | else-table-s-ne0-via-then-table-s-ne0+else-table-s w ↦ simp (ne_eqb n 0 w.if-table-s-ne0.true, lt-leb _ _ w.if-table-s.false)
+      | else-table-s-ne0-via-else-table-s-ne0 w ↦ simp (eq-eqb n 0 w.if-table-s-ne0.false)
     ] in
     (omega arith, some_more (ahead t) l.s l.invariant.1 not-here)
 

@@ -1,4 +1,4 @@
-use Rattle.std.proofs.Common.{◌≡◌, ℕ, ◌+◌, ◌-◌, ◌/◌, ◌^◌, ◌<◌, length, sym, ap, ◌∙◌, pow-suc, div-one, add-one, arith, rules}
+use Rattle.std.proofs.Common.{◌≡◌, ℕ, ◌+◌, ◌/◌, ◌^◌, ◌<◌, length, sym, ap, ◌∙◌, pow-suc, div-one, add-one, arith, rules}
 use native.Mathlib.Nat.{div-div-eq-div-mul}
 use Rattle.laws.specs.Lists.{build}
 use Rattle.laws.proofs.Lists.{length-build}

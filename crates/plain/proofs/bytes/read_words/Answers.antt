@@ -1,4 +1,4 @@
-use Rattle.std.proofs.Common.{◌≡◌, ◌+◌, ◌-◌, ◌<◌, length, arith, rules}
+use Rattle.std.proofs.Common.{◌≡◌, ◌+◌, ◌<◌, length, arith, rules}
 use Rattle.laws.specs.Lists.{build}
 use Rattle.laws.proofs.Lists.{length-build}
 use Rattle.laws.proofs.Filling.{filled_none, filled_whole, word_more}

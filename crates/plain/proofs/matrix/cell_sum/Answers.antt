@@ -1,4 +1,4 @@
-use Rattle.std.proofs.Common.{◌≡◌, ◌+◌, ◌-◌, ◌*◌, ◌<◌, length, get_or, refl, add-one, arith, rules}
+use Rattle.std.proofs.Common.{◌≡◌, ◌+◌, ◌*◌, ◌<◌, length, get_or, refl, add-one, arith, rules}
 use Rattle.laws.specs.Sums.{sum}
 use Rattle.laws.proofs.Lists.{room}
 use Rattle.laws.proofs.Sums.{cong_wrap, wrap_add}

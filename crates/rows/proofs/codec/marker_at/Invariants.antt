@@ -1,6 +1,6 @@
 -- The bytes from `at` on are zero: the search ends where it ends over the first `at` bytes.
 use mathlib.Core.Path.{◌≡◌}
-use Prim.Native.Nat.{◌-◌, ◌≤◌}
+use Prim.Native.Nat.{◌≤◌}
 use lib.ListN.{length}
 use Rattle.rows.specs.Codec.{bytes_in, bytes_of, last_nonzero, marker_at}
 use Rattle.rows.proofs.codec.marker_at.Given as goal

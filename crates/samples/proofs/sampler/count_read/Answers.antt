@@ -1,5 +1,5 @@
 use mathlib.Core.Path.{◌≡◌, refl, sym, ap, ◌∙◌}
-use Prim.Native.Nat.{ℕ, ◌+◌, ◌-◌, ◌<◌, ◌≤◌}
+use Prim.Native.Nat.{ℕ, ◌+◌, ◌<◌, ◌≤◌}
 use native.Mathlib.Omega.{arith}
 use lib.ListN.{length, take}
 use lib.Seq.{take_all}
@@ -37,8 +37,8 @@ loop-got-preserved c =
     let inside : l.seen < length w = omega arith in
     let got : c.if-words-seen.got ≡ length (given a.interval (take (l.seen + 1) w)) =
     elim c.if-words-seen.branch [
-      then-words-seen t ↦ t.got-is ∙ ap (λ (n : ℕ). n + 1) l.invariant.1 ∙ sym (length_more a.interval w l.seen inside t.if-words-seen.true)
-    | else-words-seen t ↦ t.got-is ∙ l.invariant.1 ∙ sym (ap length (given_skip a.interval w l.seen inside t.if-words-seen.false))
+      | then-words-seen t ↦ t.got-is ∙ ap (λ (n : ℕ). n + 1) l.invariant.1 ∙ sym (length_more a.interval w l.seen inside t.if-words-seen.true)
+      | else-words-seen t ↦ t.got-is ∙ l.invariant.1 ∙ sym (ap length (given_skip a.interval w l.seen inside t.if-words-seen.false))
     ] in
     let few = lt-leb a.wanted (length (given a.interval (take l.seen w))) (omega (arith, l.invariant.1)) in
     (omega arith, got, some_more (holds_enough a.interval a.wanted w) l.seen l.invariant.2 few)

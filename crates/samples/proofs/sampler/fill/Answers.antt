@@ -1,5 +1,5 @@
 use mathlib.Core.Path.{◌≡◌, refl, sym, ap, ◌∙◌}
-use Prim.Native.Nat.{ℕ, ◌+◌, ◌-◌, ◌<◌}
+use Prim.Native.Nat.{ℕ, ◌+◌, ◌<◌}
 use native.Mathlib.Omega.{arith}
 use lib.ListN.{length, take}
 use lib.Seq.{take_all}
@@ -48,7 +48,7 @@ turn c =
     let w = a.words.now in
     let inside : l.read < length w = omega arith in
     elim c.if-x-greatest.branch [
-      then-x-greatest t ↦ (
+      | then-x-greatest t ↦ (
         t.put-is ∙ ap (λ (n : ℕ). n + 1) l.invariant.1 ∙ sym (length_more a.interval w l.read inside t.if-x-greatest.true),
         rw (t.out-is, given_more a.interval w l.read inside t.if-x-greatest.true, t.value_of.ensures)
             (one_more
@@ -61,7 +61,7 @@ turn c =
             (omega (arith, length_rest a.interval w l.read inside t.if-x-greatest.true, c.requires.words_len, l.invariant.1, l.invariant.2.long))
             l.invariant.2),
       )
-    | else-x-greatest t ↦ let e = given_skip a.interval w l.read inside t.if-x-greatest.false in (
+      | else-x-greatest t ↦ let e = given_skip a.interval w l.read inside t.if-x-greatest.false in (
         t.put-is ∙ l.invariant.1 ∙ sym (ap length e),
         rw (t.out-is, e) l.invariant.2,
       )
