@@ -1,2 +1,2 @@
--- Laws of the packed view, and what the walks of its functions share.
+-- Laws of the packed view.
 pub mod Transposed

@@ -1,5 +1,5 @@
 // Document 01: "The packed matrix goes about as one view: its words, rows, columns and b." Columns are the unpacked ones.
-// The work and every refusal are `arith`'s, on plain parameters. Each function here is a walk of its code by hand.
+// The work and every refusal are `arith`'s, on plain parameters.
 ghost use Rattle.std.specs.Prelude.{◌≡◌, length};
 ghost use Rattle.arith.specs.Packing.{decompress_number, decompress_after};
 ghost use Rattle.answers.specs.Packing.{packing_number};
