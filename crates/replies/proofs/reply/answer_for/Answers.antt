@@ -1,7 +1,6 @@
 -- The slot's words and a row of the table's length are lent; what was recovered is then read.
 use Rattle.std.proofs.Common.{◌≡◌, ℕ, ◌+◌, ◌-◌, ◌*◌, ◌≤◌, List, length, take, replicate, sym, ap, ◌∙◌, arith}
-use lib.ListN.{length-replicate}
-use borrow.Rule.Slice.PartMut.{put_mid, same_len_mid}
+use borrow.Rule.Slice.PartMut.{put_mid}
 use Rattle.laws.specs.Lists.{row, laid}
 use Rattle.laws.proofs.Lists.{room, row_lent, length-build}
 use Rattle.laws.proofs.Filling.{front_laid, take-laid}

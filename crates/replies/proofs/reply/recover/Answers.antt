@@ -1,4 +1,4 @@
-use Rattle.std.proofs.Common.{◌≡◌, ℕ, ◌+◌, ◌-◌, ◌%◌, ◌^◌, ◌<◌, ◌≤◌, length, get_or, refl, ap, ◌∙◌, mod-lt, arith, pow_pos, pow_mono, rules}
+use Rattle.std.proofs.Common.{◌≡◌, ℕ, ◌+◌, ◌%◌, ◌^◌, ◌<◌, ◌≤◌, length, get_or, refl, ap, ◌∙◌, mod-lt, arith, pow_pos, pow_mono, rules}
 use Rattle.laws.specs.Lists.{build}
 use Rattle.laws.proofs.Lists.{length-build}
 use Rattle.laws.proofs.Filling.{filled_none, filled_whole, word_more}
