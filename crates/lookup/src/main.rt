@@ -5,7 +5,7 @@
 mod host;
 mod print;
 mod store;
-mod terminal;
+mod till;
 
 use client::table;
 use client::table::Table;
@@ -15,11 +15,11 @@ use std::io;
 fn once(rt: &impl Print, t: Table, slab: &mut [u32]) -> io::Result<Table> {
     print::text(rt, b"\nBen is at the till.\n")?;
     let mut query = [0; 83];
-    let u = terminal::ask(rt, t, slab, store::ben(), store::ben(), 1, &mut query)?;
+    let u = till::ask(rt, t, slab, store::ben(), store::ben(), 1, &mut query)?;
     let line = host::answer(rt, query)?;
-    let v = terminal::come(rt, u, slab, &line)?;
+    let v = till::come(rt, u, slab, &line)?;
     print::text(rt, b"The same line comes again.\n")?;
-    terminal::come(rt, v, slab, &line)
+    till::come(rt, v, slab, &line)
 }
 
 // Ada's ticket is discarded, and she is asked for anew.
@@ -34,9 +34,9 @@ fn again(
         rt,
         b"\nAda is at the till, and the lane is started again.\n",
     )?;
-    let u = terminal::ask(rt, t, slab, store::ada(), store::ada(), 2, first)?;
-    let v = terminal::drop(rt, u, slab, 2)?;
-    terminal::ask(rt, v, slab, store::ada(), store::ada(), 3, second)
+    let u = till::ask(rt, t, slab, store::ada(), store::ada(), 2, first)?;
+    let v = till::drop(rt, u, slab, 2)?;
+    till::ask(rt, v, slab, store::ada(), store::ada(), 3, second)
 }
 
 // The first line is late, and the second is not.
@@ -48,9 +48,9 @@ fn late(
     second: [u8; 83],
 ) -> io::Result<Table> {
     print::text(rt, b"The first line comes, too late.\n")?;
-    let u = terminal::come(rt, t, slab, &host::answer(rt, first)?)?;
+    let u = till::come(rt, t, slab, &host::answer(rt, first)?)?;
     print::text(rt, b"The second line comes.\n")?;
-    terminal::come(rt, u, slab, &host::answer(rt, second)?)
+    till::come(rt, u, slab, &host::answer(rt, second)?)
 }
 
 // Cy's row is fetched under Ben's digest.
@@ -60,8 +60,8 @@ fn wrong(rt: &impl Print, t: Table, slab: &mut [u32]) -> io::Result<Table> {
         b"\nBen's card is read, and Cy's places are asked for.\n",
     )?;
     let mut query = [0; 83];
-    let u = terminal::ask(rt, t, slab, store::cy(), store::ben(), 4, &mut query)?;
-    terminal::come(rt, u, slab, &host::answer(rt, query)?)
+    let u = till::ask(rt, t, slab, store::cy(), store::ben(), 4, &mut query)?;
+    till::come(rt, u, slab, &host::answer(rt, query)?)
 }
 
 fn main(rt: HostRuntime) -> io::Result<()> {
