@@ -1,4 +1,3 @@
 -- Laws of all answers alike.
 pub mod Apart
-pub mod Refusing
 pub mod Settled

@@ -1,23 +1,31 @@
 -- Document 01, "Matrix bytes": what each answer tells.
-use Rattle.std.specs.Prelude.{ℕ}
-use Rattle.answers.specs.declared.bytes.Parsing.{Parsing}
-use Rattle.answers.specs.declared.bytes.Parsing.TheVariants as parsing
+use Rattle.std.specs.Prelude.{ℕ, ◌<◌, Result}
+use Rattle.std.proofs.Common.{arith}
+use Rattle.answers.specs.Refusal.{number_of, told_of}
+use Rattle.answers.specs.declared.bytes.ParsingRefusal.{ParsingRefusal}
+use Rattle.answers.specs.declared.bytes.ParsingRefusal.TheVariants as parsing
 use Rattle.answers.specs.declared.bytes.Parsed.{Parsed}
 
-abbrev told : ℕ → ℕ → ℕ → Parsed
-told number rows columns = record { number = number; rows = rows; columns = columns }
+-- 01's number of each reason
+abbrev pub parsing_refusal : ParsingRefusal → ℕ
+parsing_refusal parsing.Malformed = 11
+parsing_refusal parsing.Shape = 2
 
--- 01's number, rows and columns, which are 0 on a refusal
-abbrev pub told_parsing : Parsing → Parsed
-told_parsing (parsing.Matrix rows columns) = told 0 rows columns
-told_parsing parsing.Malformed = told 11 0 0
-told_parsing parsing.Shape = told 2 0 0
+pub parsing_refuses : (reason : ParsingRefusal) → 0 < parsing_refusal reason
+parsing_refuses parsing.Malformed = omega arith
+parsing_refuses parsing.Shape = omega arith
 
-abbrev pub parsing_number : Parsing → ℕ
-parsing_number a = (told_parsing a).number
+-- 01's number of an answer
+abbrev pub parsing_number : Result (ℕ × ℕ) ParsingRefusal → ℕ
+parsing_number = number_of parsing_refusal
 
-abbrev pub parsing_rows : Parsing → ℕ
-parsing_rows a = (told_parsing a).rows
+-- the rows, which is 0 on a refusal
+abbrev pub parsing_rows : Result (ℕ × ℕ) ParsingRefusal → ℕ
+parsing_rows = told_of (λ size. size.0)
 
-abbrev pub parsing_columns : Parsing → ℕ
-parsing_columns a = (told_parsing a).columns
+-- the columns, which is 0 on a refusal
+abbrev pub parsing_columns : Result (ℕ × ℕ) ParsingRefusal → ℕ
+parsing_columns = told_of (λ size. size.1)
+
+abbrev pub told_parsing : Result (ℕ × ℕ) ParsingRefusal → Parsed
+told_parsing a = record { number = parsing_number a; rows = parsing_rows a; columns = parsing_columns a }

@@ -1,31 +1,48 @@
 -- Document 01, "Row codec": what each answer tells.
-use Rattle.std.specs.Prelude.{ℕ}
-use Rattle.answers.specs.declared.codec.Encoding.{Encoding}
-use Rattle.answers.specs.declared.codec.Encoding.TheVariants as encoding
-use Rattle.answers.specs.declared.codec.Decoding.{Decoding}
-use Rattle.answers.specs.declared.codec.Decoding.TheVariants as decoding
+use Rattle.std.specs.Prelude.{ℕ, ◌<◌, Result}
+use Rattle.std.proofs.Common.{arith}
+use Rattle.answers.specs.Refusal.{number_of, told_of}
+use Rattle.answers.specs.declared.codec.EncodingRefusal.{EncodingRefusal}
+use Rattle.answers.specs.declared.codec.EncodingRefusal.TheVariants as encoding
+use Rattle.answers.specs.declared.codec.DecodingRefusal.{DecodingRefusal}
+use Rattle.answers.specs.declared.codec.DecodingRefusal.TheVariants as decoding
 use Rattle.answers.specs.declared.codec.Decoded.{Decoded}
 
--- 01's number of the writer's answer
-abbrev pub encoding_number : Encoding → ℕ
-encoding_number encoding.Done = 0
-encoding_number encoding.Width = 1
-encoding_number encoding.Shape = 2
-encoding_number encoding.TooLong = 16
+-- 01's number of each reason
+abbrev pub encoding_refusal : EncodingRefusal → ℕ
+encoding_refusal encoding.Width = 1
+encoding_refusal encoding.Shape = 2
+encoding_refusal encoding.TooLong = 16
 
-abbrev told : ℕ → ℕ → Decoded
-told number length = record { number = number; length = length }
+pub encoding_refuses : (reason : EncodingRefusal) → 0 < encoding_refusal reason
+encoding_refuses encoding.Width = omega arith
+encoding_refuses encoding.Shape = omega arith
+encoding_refuses encoding.TooLong = omega arith
 
--- 01's number, and the value's length, which is 0 on a refusal
-abbrev pub told_decoding : Decoding → Decoded
-told_decoding (decoding.Value length) = told 0 length
-told_decoding decoding.Width = told 1 0
-told_decoding decoding.Shape = told 2 0
-told_decoding decoding.Element = told 17 0
-told_decoding decoding.Marker = told 13 0
+-- 01's number of an answer
+abbrev pub encoding_number : Result Unit EncodingRefusal → ℕ
+encoding_number = number_of encoding_refusal
 
-abbrev pub decoding_number : Decoding → ℕ
-decoding_number a = (told_decoding a).number
+-- 01's number of each reason
+abbrev pub decoding_refusal : DecodingRefusal → ℕ
+decoding_refusal decoding.Width = 1
+decoding_refusal decoding.Shape = 2
+decoding_refusal decoding.Element = 17
+decoding_refusal decoding.Marker = 13
 
-abbrev pub decoding_length : Decoding → ℕ
-decoding_length a = (told_decoding a).length
+pub decoding_refuses : (reason : DecodingRefusal) → 0 < decoding_refusal reason
+decoding_refuses decoding.Width = omega arith
+decoding_refuses decoding.Shape = omega arith
+decoding_refuses decoding.Element = omega arith
+decoding_refuses decoding.Marker = omega arith
+
+-- 01's number of an answer
+abbrev pub decoding_number : Result ℕ DecodingRefusal → ℕ
+decoding_number = number_of decoding_refusal
+
+-- the value's length, which is 0 on a refusal
+abbrev pub decoding_length : Result ℕ DecodingRefusal → ℕ
+decoding_length = told_of (λ length. length)
+
+abbrev pub told_decoding : Result ℕ DecodingRefusal → Decoded
+told_decoding a = record { number = decoding_number a; length = decoding_length a }

@@ -1,4 +1,5 @@
 -- What each answer tells, one module for each of src/. What a reader must believe stands here.
+pub mod Refusal
 pub mod Matrix
 pub mod Bytes
 pub mod Packing

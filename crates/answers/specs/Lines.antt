@@ -1,41 +1,54 @@
 -- Document 01, "Lines": what each answer tells.
-use Rattle.std.specs.Prelude.{ℕ}
-use Rattle.answers.specs.declared.lines.Writing.{Writing}
-use Rattle.answers.specs.declared.lines.Writing.TheVariants as writing
+use Rattle.std.specs.Prelude.{ℕ, ◌<◌, Result}
+use Rattle.std.proofs.Common.{arith}
+use Rattle.answers.specs.Refusal.{number_of, told_of}
+use Rattle.answers.specs.declared.lines.WritingRefusal.{WritingRefusal}
+use Rattle.answers.specs.declared.lines.WritingRefusal.TheVariants as writing
 use Rattle.answers.specs.declared.lines.LineWritten.{LineWritten}
-use Rattle.answers.specs.declared.lines.Reading.{Reading}
-use Rattle.answers.specs.declared.lines.Reading.TheVariants as reading
+use Rattle.answers.specs.declared.lines.ReadingRefusal.{ReadingRefusal}
+use Rattle.answers.specs.declared.lines.ReadingRefusal.TheVariants as reading
 use Rattle.answers.specs.declared.lines.LineRead.{LineRead}
 
-abbrev written : ℕ → ℕ → LineWritten
-written number length = record { number = number; length = length }
+-- 01's number of each reason
+abbrev pub writing_refusal : WritingRefusal → ℕ
+writing_refusal writing.NoTicket = 11
+writing_refusal writing.Shape = 2
 
--- 01's number, and the line's length, which is 0 on a refusal
-abbrev pub told_writing : Writing → LineWritten
-told_writing (writing.Line length) = written 0 length
-told_writing writing.NoTicket = written 11 0
-told_writing writing.Shape = written 2 0
+pub writing_refuses : (reason : WritingRefusal) → 0 < writing_refusal reason
+writing_refuses writing.NoTicket = omega arith
+writing_refuses writing.Shape = omega arith
 
-abbrev pub writing_number : Writing → ℕ
-writing_number a = (told_writing a).number
+-- 01's number of an answer
+abbrev pub writing_number : Result ℕ WritingRefusal → ℕ
+writing_number = number_of writing_refusal
 
-abbrev pub writing_length : Writing → ℕ
-writing_length a = (told_writing a).length
+-- the line's length, which is 0 on a refusal
+abbrev pub writing_length : Result ℕ WritingRefusal → ℕ
+writing_length = told_of (λ length. length)
 
-abbrev read : ℕ → ℕ → ℕ → LineRead
-read number ticket columns = record { number = number; ticket = ticket; columns = columns }
+abbrev pub told_writing : Result ℕ WritingRefusal → LineWritten
+told_writing a = record { number = writing_number a; length = writing_length a }
 
--- 01's number, the ticket and the count of words, which are 0 on a refusal
-abbrev pub told_reading : Reading → LineRead
-told_reading (reading.Words ticket columns) = read 0 ticket columns
-told_reading reading.Malformed = read 11 0 0
-told_reading reading.Shape = read 2 0 0
+-- 01's number of each reason
+abbrev pub reading_refusal : ReadingRefusal → ℕ
+reading_refusal reading.Malformed = 11
+reading_refusal reading.Shape = 2
 
-abbrev pub reading_number : Reading → ℕ
-reading_number a = (told_reading a).number
+pub reading_refuses : (reason : ReadingRefusal) → 0 < reading_refusal reason
+reading_refuses reading.Malformed = omega arith
+reading_refuses reading.Shape = omega arith
 
-abbrev pub reading_ticket : Reading → ℕ
-reading_ticket a = (told_reading a).ticket
+-- 01's number of an answer
+abbrev pub reading_number : Result (ℕ × ℕ) ReadingRefusal → ℕ
+reading_number = number_of reading_refusal
 
-abbrev pub reading_columns : Reading → ℕ
-reading_columns a = (told_reading a).columns
+-- the ticket, which is 0 on a refusal
+abbrev pub reading_ticket : Result (ℕ × ℕ) ReadingRefusal → ℕ
+reading_ticket = told_of (λ line. line.0)
+
+-- the count of words, which is 0 on a refusal
+abbrev pub reading_columns : Result (ℕ × ℕ) ReadingRefusal → ℕ
+reading_columns = told_of (λ line. line.1)
+
+abbrev pub told_reading : Result (ℕ × ℕ) ReadingRefusal → LineRead
+told_reading a = record { number = reading_number a; ticket = reading_ticket a; columns = reading_columns a }

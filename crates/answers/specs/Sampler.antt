@@ -1,21 +1,29 @@
 -- Document 01, "Ternary sampler": what each answer tells.
-use Rattle.std.specs.Prelude.{ℕ}
-use Rattle.answers.specs.declared.sampler.Sampling.{Sampling}
-use Rattle.answers.specs.declared.sampler.Sampling.TheVariants as sampling
+use Rattle.std.specs.Prelude.{ℕ, ◌<◌, Result}
+use Rattle.std.proofs.Common.{arith}
+use Rattle.answers.specs.Refusal.{number_of, told_of}
+use Rattle.answers.specs.declared.sampler.SamplingRefusal.{SamplingRefusal}
+use Rattle.answers.specs.declared.sampler.SamplingRefusal.TheVariants as sampling
 use Rattle.answers.specs.declared.sampler.Sampled.{Sampled}
 
-abbrev told : ℕ → ℕ → Sampled
-told number read = record { number = number; read = read }
+-- 01's number of each reason
+abbrev pub sampling_refusal : SamplingRefusal → ℕ
+sampling_refusal sampling.Shape = 2
+sampling_refusal sampling.Interval = 4
+sampling_refusal sampling.Short = 3
 
--- 01's number, and the count of words read, which is 0 on a refusal
-abbrev pub told_sampling : Sampling → Sampled
-told_sampling (sampling.Read read) = told 0 read
-told_sampling sampling.Shape = told 2 0
-told_sampling sampling.Interval = told 4 0
-told_sampling sampling.Short = told 3 0
+pub sampling_refuses : (reason : SamplingRefusal) → 0 < sampling_refusal reason
+sampling_refuses sampling.Shape = omega arith
+sampling_refuses sampling.Interval = omega arith
+sampling_refuses sampling.Short = omega arith
 
-abbrev pub sampling_number : Sampling → ℕ
-sampling_number a = (told_sampling a).number
+-- 01's number of an answer
+abbrev pub sampling_number : Result ℕ SamplingRefusal → ℕ
+sampling_number = number_of sampling_refusal
 
-abbrev pub sampling_read : Sampling → ℕ
-sampling_read a = (told_sampling a).read
+-- the count of words read, which is 0 on a refusal
+abbrev pub sampling_read : Result ℕ SamplingRefusal → ℕ
+sampling_read = told_of (λ read. read)
+
+abbrev pub told_sampling : Result ℕ SamplingRefusal → Sampled
+told_sampling a = record { number = sampling_number a; read = sampling_read a }

@@ -1,16 +1,29 @@
 // Document 01, "Matrix bytes": the answers.
 ghost use Rattle.std.specs.Prelude.{◌≡◌};
-ghost use Rattle.answers.specs.Bytes.{parsing_number, parsing_rows, parsing_columns};
+ghost use Rattle.answers.specs.Bytes.{parsing_refusal, parsing_refuses, told_parsing};
 
-// What the matrix-bytes reader answers.
-#[derive(Clone, Copy)]
-pub enum Parsing {
-    // 0: the words are written; rows and columns.
-    Matrix(usize, usize),
+use super::refusal::{Refusal, told};
+
+// Why the matrix-bytes reader refuses.
+#[derive(Clone, Copy, Debug, PartialEq, Eq)]
+pub enum ParsingRefusal {
     // 11: the length is not what the dimensions give.
     Malformed,
     // 2: a dimension is outside 1..=4096, or the output is too short.
     Shape,
+}
+
+impl Refusal for ParsingRefusal {
+    ghost number = { parsing_refusal };
+
+    ghost refuses = { parsing_refuses };
+
+    fn number(self) -> u32 {
+        match self {
+            ParsingRefusal::Malformed => 11,
+            ParsingRefusal::Shape => 2,
+        }
+    }
 }
 
 // What it tells: rows and columns are 0 on a refusal.
@@ -22,22 +35,15 @@ pub struct Parsed {
     pub columns: usize,
 }
 
-fn told(number: u32, rows: usize, columns: usize) -> Parsed
-    ensures { (result.number ≡ number) × (result.rows ≡ rows) × (result.columns ≡ columns) }
-{
-    Parsed {
-        number,
-        rows,
-        columns,
-    }
-}
+impl From<Result<(usize, usize), ParsingRefusal>> for Parsed {
+    ghost from_gives = { λ answer t. t ≡ told_parsing answer };
 
-pub fn told_parsing(answer: Parsing) -> Parsed
-    ensures { (result.number ≡ parsing_number answer) × (result.rows ≡ parsing_rows answer) × (result.columns ≡ parsing_columns answer) }
-{
-    match answer {
-        Parsing::Matrix(rows, columns) => told(0, rows, columns),
-        Parsing::Malformed => told(11, 0, 0),
-        Parsing::Shape => told(2, 0, 0),
+    fn from(answer: Result<(usize, usize), ParsingRefusal>) -> Parsed {
+        let (rows, columns) = answer.unwrap_or((0, 0));
+        Parsed {
+            number: told(answer),
+            rows,
+            columns,
+        }
     }
 }

@@ -1,12 +1,12 @@
 // Document 01, "Row codec": the answers.
 ghost use Rattle.std.specs.Prelude.{◌≡◌};
-ghost use Rattle.answers.specs.Codec.{encoding_number, decoding_number, decoding_length};
+ghost use Rattle.answers.specs.Codec.{encoding_refusal, encoding_refuses, decoding_refusal, decoding_refuses, told_decoding};
 
-// What the row writer answers.
-#[derive(Clone, Copy)]
-pub enum Encoding {
-    // 0: the row is written.
-    Done,
+use super::refusal::{Refusal, told};
+
+// Why the row writer refuses.
+#[derive(Clone, Copy, Debug, PartialEq, Eq)]
+pub enum EncodingRefusal {
     // 1: b is outside 4..=14.
     Width,
     // 2: C outside 1..=512, C·b below 264, or the output too short.
@@ -15,22 +15,23 @@ pub enum Encoding {
     TooLong,
 }
 
-pub fn told_encoding(answer: Encoding) -> u32
-    ensures { result ≡ encoding_number answer }
-{
-    match answer {
-        Encoding::Done => 0,
-        Encoding::Width => 1,
-        Encoding::Shape => 2,
-        Encoding::TooLong => 16,
+impl Refusal for EncodingRefusal {
+    ghost number = { encoding_refusal };
+
+    ghost refuses = { encoding_refuses };
+
+    fn number(self) -> u32 {
+        match self {
+            EncodingRefusal::Width => 1,
+            EncodingRefusal::Shape => 2,
+            EncodingRefusal::TooLong => 16,
+        }
     }
 }
 
-// What the row reader answers.
-#[derive(Clone, Copy)]
-pub enum Decoding {
-    // 0: digest and value are written; the value's length.
-    Value(usize),
+// Why the row reader refuses.
+#[derive(Clone, Copy, Debug, PartialEq, Eq)]
+pub enum DecodingRefusal {
     // 1: b is outside 4..=14.
     Width,
     // 2: C or C·b outside its limits, a row of another length, or an output too short.
@@ -41,6 +42,21 @@ pub enum Decoding {
     Marker,
 }
 
+impl Refusal for DecodingRefusal {
+    ghost number = { decoding_refusal };
+
+    ghost refuses = { decoding_refuses };
+
+    fn number(self) -> u32 {
+        match self {
+            DecodingRefusal::Width => 1,
+            DecodingRefusal::Shape => 2,
+            DecodingRefusal::Element => 17,
+            DecodingRefusal::Marker => 13,
+        }
+    }
+}
+
 // What it tells: the value's length is 0 on a refusal.
 #[repr(C)]
 #[derive(Clone, Copy)]
@@ -49,20 +65,13 @@ pub struct Decoded {
     pub length: usize,
 }
 
-fn told(number: u32, length: usize) -> Decoded
-    ensures { (result.number ≡ number) × (result.length ≡ length) }
-{
-    Decoded { number, length }
-}
+impl From<Result<usize, DecodingRefusal>> for Decoded {
+    ghost from_gives = { λ answer t. t ≡ told_decoding answer };
 
-pub fn told_decoding(answer: Decoding) -> Decoded
-    ensures { (result.number ≡ decoding_number answer) × (result.length ≡ decoding_length answer) }
-{
-    match answer {
-        Decoding::Value(length) => told(0, length),
-        Decoding::Width => told(1, 0),
-        Decoding::Shape => told(2, 0),
-        Decoding::Element => told(17, 0),
-        Decoding::Marker => told(13, 0),
+    fn from(answer: Result<usize, DecodingRefusal>) -> Decoded {
+        Decoded {
+            number: told(answer),
+            length: answer.unwrap_or(0),
+        }
     }
 }

@@ -1,12 +1,12 @@
 // Document 01, "Builder": the answers.
 ghost use Rattle.std.specs.Prelude.{◌≡◌};
-ghost use Rattle.answers.specs.Database.{building_number};
+ghost use Rattle.answers.specs.Database.{building_refusal, building_refuses};
 
-// What the builder answers.
-#[derive(Clone, Copy)]
-pub enum Building {
-    // 0: the database is written.
-    Done,
+use super::refusal::Refusal;
+
+// Why the builder refuses.
+#[derive(Clone, Copy, Debug, PartialEq, Eq)]
+pub enum BuildingRefusal {
     // 1: b is outside 4..=14.
     Width,
     // 2: R outside 1..=4096, C outside 1..=512, more keys than rows, a lent length wrong, or the database too short.
@@ -17,14 +17,17 @@ pub enum Building {
     Placement,
 }
 
-pub fn told_building(answer: Building) -> u32
-    ensures { result ≡ building_number answer }
-{
-    match answer {
-        Building::Done => 0,
-        Building::Width => 1,
-        Building::Shape => 2,
-        Building::Element => 17,
-        Building::Placement => 15,
+impl Refusal for BuildingRefusal {
+    ghost number = { building_refusal };
+
+    ghost refuses = { building_refuses };
+
+    fn number(self) -> u32 {
+        match self {
+            BuildingRefusal::Width => 1,
+            BuildingRefusal::Shape => 2,
+            BuildingRefusal::Element => 17,
+            BuildingRefusal::Placement => 15,
+        }
     }
 }

@@ -8,4 +8,5 @@ pub mod database;
 pub mod lines;
 pub mod matrix;
 pub mod packing;
+pub mod refusal;
 pub mod sampler;

@@ -1,16 +1,29 @@
 // Document 01, "Lines": the answers.
 ghost use Rattle.std.specs.Prelude.{◌≡◌};
-ghost use Rattle.answers.specs.Lines.{writing_number, writing_length, reading_number, reading_ticket, reading_columns};
+ghost use Rattle.answers.specs.Lines.{writing_refusal, writing_refuses, told_writing, reading_refusal, reading_refuses, told_reading};
 
-// What the line writer answers.
-#[derive(Clone, Copy)]
-pub enum Writing {
-    // 0: the line is written; its length, LF included.
-    Line(usize),
+use super::refusal::{Refusal, told};
+
+// Why the line writer refuses.
+#[derive(Clone, Copy, Debug, PartialEq, Eq)]
+pub enum WritingRefusal {
     // 11: the ticket is 0.
     NoTicket,
     // 2: not 1 to 4,096 words, or the output too short.
     Shape,
+}
+
+impl Refusal for WritingRefusal {
+    ghost number = { writing_refusal };
+
+    ghost refuses = { writing_refuses };
+
+    fn number(self) -> u32 {
+        match self {
+            WritingRefusal::NoTicket => 11,
+            WritingRefusal::Shape => 2,
+        }
+    }
 }
 
 // What it tells: the line's length, LF included, is 0 on a refusal.
@@ -21,34 +34,40 @@ pub struct LineWritten {
     pub length: usize,
 }
 
-fn written(number: u32, length: usize) -> LineWritten
-    ensures { (result.number ≡ number) × (result.length ≡ length) }
-{
-    LineWritten { number, length }
-}
+impl From<Result<usize, WritingRefusal>> for LineWritten {
+    ghost from_gives = { λ answer t. t ≡ told_writing answer };
 
-pub fn told_writing(answer: Writing) -> LineWritten
-    ensures { (result.number ≡ writing_number answer) × (result.length ≡ writing_length answer) }
-{
-    match answer {
-        Writing::Line(length) => written(0, length),
-        Writing::NoTicket => written(11, 0),
-        Writing::Shape => written(2, 0),
+    fn from(answer: Result<usize, WritingRefusal>) -> LineWritten {
+        LineWritten {
+            number: told(answer),
+            length: answer.unwrap_or(0),
+        }
     }
 }
 
-// What the line reader answers.
-#[derive(Clone, Copy)]
-pub enum Reading {
-    // 0: the words are written; the ticket, and how many words.
-    Words(u32, usize),
+// Why the line reader refuses.
+#[derive(Clone, Copy, Debug, PartialEq, Eq)]
+pub enum ReadingRefusal {
     // 11: not a whole line of this kind.
     Malformed,
     // 2: the output is too short.
     Shape,
 }
 
-// What it tells: ticket and count are 0 on a refusal.
+impl Refusal for ReadingRefusal {
+    ghost number = { reading_refusal };
+
+    ghost refuses = { reading_refuses };
+
+    fn number(self) -> u32 {
+        match self {
+            ReadingRefusal::Malformed => 11,
+            ReadingRefusal::Shape => 2,
+        }
+    }
+}
+
+// What it tells: the ticket and the count of words are 0 on a refusal.
 #[repr(C)]
 #[derive(Clone, Copy)]
 pub struct LineRead {
@@ -57,22 +76,15 @@ pub struct LineRead {
     pub columns: usize,
 }
 
-fn read(number: u32, ticket: u32, columns: usize) -> LineRead
-    ensures { (result.number ≡ number) × (result.ticket ≡ ticket) × (result.columns ≡ columns) }
-{
-    LineRead {
-        number,
-        ticket,
-        columns,
-    }
-}
+impl From<Result<(u32, usize), ReadingRefusal>> for LineRead {
+    ghost from_gives = { λ answer t. t ≡ told_reading answer };
 
-pub fn told_reading(answer: Reading) -> LineRead
-    ensures { (result.number ≡ reading_number answer) × (result.ticket ≡ reading_ticket answer) × (result.columns ≡ reading_columns answer) }
-{
-    match answer {
-        Reading::Words(ticket, columns) => read(0, ticket, columns),
-        Reading::Malformed => read(11, 0, 0),
-        Reading::Shape => read(2, 0, 0),
+    fn from(answer: Result<(u32, usize), ReadingRefusal>) -> LineRead {
+        let (ticket, columns) = answer.unwrap_or((0, 0));
+        LineRead {
+            number: told(answer),
+            ticket,
+            columns,
+        }
     }
 }

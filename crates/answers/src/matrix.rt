@@ -1,21 +1,24 @@
 // Document 01, the plain product, the transpose and the matrix-bytes writer: the answers.
 ghost use Rattle.std.specs.Prelude.{◌≡◌};
-ghost use Rattle.answers.specs.Matrix.{fitting_number};
+ghost use Rattle.answers.specs.Matrix.{fitting_refusal, fitting_refuses};
 
-// What the plain product, the transpose and the matrix-bytes writer answer.
-#[derive(Clone, Copy)]
-pub enum Fitting {
-    // 0: the output is written.
-    Done,
+use super::refusal::Refusal;
+
+// Why the plain product, the transpose and the matrix-bytes writer refuse.
+#[derive(Clone, Copy, Debug, PartialEq, Eq)]
+pub enum FittingRefusal {
     // 2: a dimension is outside 1..=4096, a lent length is wrong, or the output is too short.
     Shape,
 }
 
-pub fn told_fitting(answer: Fitting) -> u32
-    ensures { result ≡ fitting_number answer }
-{
-    match answer {
-        Fitting::Done => 0,
-        Fitting::Shape => 2,
+impl Refusal for FittingRefusal {
+    ghost number = { fitting_refusal };
+
+    ghost refuses = { fitting_refuses };
+
+    fn number(self) -> u32 {
+        match self {
+            FittingRefusal::Shape => 2,
+        }
     }
 }

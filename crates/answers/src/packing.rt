@@ -1,24 +1,27 @@
 // Document 01, "Packing" and "Packed product": the answers.
 ghost use Rattle.std.specs.Prelude.{◌≡◌};
-ghost use Rattle.answers.specs.Packing.{packing_number};
+ghost use Rattle.answers.specs.Packing.{packing_refusal, packing_refuses};
 
-// What packing, unpacking and the packed product answer.
-#[derive(Clone, Copy)]
-pub enum Packing {
-    // 0: the output is written.
-    Done,
+use super::refusal::Refusal;
+
+// Why packing, unpacking and the packed product refuse.
+#[derive(Clone, Copy, Debug, PartialEq, Eq)]
+pub enum PackingRefusal {
     // 1: b is outside 4..=14.
     Width,
     // 2: a dimension is outside its limit, a lent length is wrong, or the output is too short.
     Shape,
 }
 
-pub fn told_packing(answer: Packing) -> u32
-    ensures { result ≡ packing_number answer }
-{
-    match answer {
-        Packing::Done => 0,
-        Packing::Width => 1,
-        Packing::Shape => 2,
+impl Refusal for PackingRefusal {
+    ghost number = { packing_refusal };
+
+    ghost refuses = { packing_refuses };
+
+    fn number(self) -> u32 {
+        match self {
+            PackingRefusal::Width => 1,
+            PackingRefusal::Shape => 2,
+        }
     }
 }

@@ -1,12 +1,12 @@
 // Document 01, "Ternary sampler": the answers.
 ghost use Rattle.std.specs.Prelude.{◌≡◌};
-ghost use Rattle.answers.specs.Sampler.{sampling_number, sampling_read};
+ghost use Rattle.answers.specs.Sampler.{sampling_refusal, sampling_refuses, told_sampling};
 
-// What the sampler answers.
-#[derive(Clone, Copy)]
-pub enum Sampling {
-    // 0: the output is written; the count of words read, skipped ones included.
-    Read(usize),
+use super::refusal::{Refusal, told};
+
+// Why the sampler refuses.
+#[derive(Clone, Copy, Debug, PartialEq, Eq)]
+pub enum SamplingRefusal {
     // 2: more than 4,096 are wanted.
     Shape,
     // 4: the interval is outside 1..=1431655765.
@@ -15,7 +15,21 @@ pub enum Sampling {
     Short,
 }
 
-// What it tells: the count of words read is 0 on a refusal.
+impl Refusal for SamplingRefusal {
+    ghost number = { sampling_refusal };
+
+    ghost refuses = { sampling_refuses };
+
+    fn number(self) -> u32 {
+        match self {
+            SamplingRefusal::Shape => 2,
+            SamplingRefusal::Interval => 4,
+            SamplingRefusal::Short => 3,
+        }
+    }
+}
+
+// What it tells: the count of words read, skipped ones included, is 0 on a refusal.
 #[repr(C)]
 #[derive(Clone, Copy)]
 pub struct Sampled {
@@ -23,19 +37,13 @@ pub struct Sampled {
     pub read: usize,
 }
 
-fn told(number: u32, read: usize) -> Sampled
-    ensures { (result.number ≡ number) × (result.read ≡ read) }
-{
-    Sampled { number, read }
-}
+impl From<Result<usize, SamplingRefusal>> for Sampled {
+    ghost from_gives = { λ answer t. t ≡ told_sampling answer };
 
-pub fn told_sampling(answer: Sampling) -> Sampled
-    ensures { (result.number ≡ sampling_number answer) × (result.read ≡ sampling_read answer) }
-{
-    match answer {
-        Sampling::Read(read) => told(0, read),
-        Sampling::Shape => told(2, 0),
-        Sampling::Interval => told(4, 0),
-        Sampling::Short => told(3, 0),
+    fn from(answer: Result<usize, SamplingRefusal>) -> Sampled {
+        Sampled {
+            number: told(answer),
+            read: answer.unwrap_or(0),
+        }
     }
 }

@@ -3,5 +3,6 @@ pub mod Shapes
 pub mod Answers
 pub mod Sizes
 pub mod Slots
+pub mod Chunks
 pub mod Rows
 pub mod RoundTrip

@@ -1,5 +1,5 @@
 -- Document 01, "Packing".
-use Rattle.std.specs.Prelude.{ℕ, ◌+◌, ◌-◌, ◌*◌, ◌/◌, ◌%◌, ◌^◌, ◌≤◌, Bool, cond, not, ◌||◌, List, [], ◌∷◌, length, ◌==◌, nat_le, nat_lt, slice_index}
+use Rattle.std.specs.Prelude.{ℕ, ◌+◌, ◌-◌, ◌*◌, ◌/◌, ◌%◌, ◌^◌, Bool, cond, not, ◌||◌, List, [], ◌∷◌, length, ◌==◌, nat_le, nat_lt, slice_index}
 use Rattle.laws.specs.Refusals.{◌⇒◌, first, after, outside, width_bad}
 use Rattle.laws.specs.Lists.{build, join, part, row, laid}
 use Rattle.laws.specs.Sums.{sum}
@@ -67,15 +67,6 @@ abbrev pub decompress_after : ℕ → ℕ → ℕ → List ℕ → List ℕ → 
 decompress_after b rows k words out =
     after (decompress_number b rows k (length words) (length out)) (laid (unpacked b rows k words) out) out
 
--- What the workers on one word ask and make; no public contract cites these.
-
--- n slots of w bits lie inside a word, and each holds an element of b bits
-pub record Slotted (b w n : ℕ) : Type 0 where
-  pub low : 4 ≤ b
-  pub high : b ≤ 14
-  pub wide : b ≤ w
-  pub fits : n * w ≤ 32
-
--- the first n slots of a word
+-- What a worker on one word makes; no public contract cites it: the first n slots of a word
 abbrev pub slots : ℕ → ℕ → ℕ → ℕ → List ℕ
 slots b w word n = build n (slot b w word)

@@ -1,29 +1,31 @@
 // Document 01, "Packing": elements of b bits, two, three or four to a word.
-ghost use Rattle.std.specs.Prelude.{◌≡◌, ◌+◌, ◌-◌, ◌*◌, ◌^◌, ◌≤◌, min, [], ◌∷◌, length};
-ghost use Rattle.laws.specs.Refusals.{first, ◌⇒◌};
-ghost use Rattle.laws.specs.Lists.{laid};
-ghost use Rattle.arith.specs.Packing.{factor_of, slot_bits, words_of, word_of, pack_row, packed, unpack_row, unpacked, Slotted, slots};
+ghost use Rattle.std.specs.Prelude.{◌≡◌, ℕ, List, ◌+◌, ◌*◌, ◌<◌, ◌≤◌, [], ◌∷◌, length, IfOk};
+ghost use Rattle.laws.specs.Refusals.{first, ◌⇒◌, width_bad};
+ghost use Rattle.laws.specs.Lists.{laid, join, row};
+ghost use Rattle.arith.specs.Packing.{factor_of, slot_bits, words_of, word_of, pack_row, packed, unpack_row, unpacked, slots};
 ghost use Rattle.arith.specs.Packing.{packing_shape_bad, compress_number, compress_after, decompress_number, decompress_after};
-ghost use Rattle.answers.specs.Packing.{packing_number};
+ghost use Rattle.answers.specs.Refusal.{number_of};
+ghost use Rattle.answers.specs.Packing.{packing_number, packing_refusal};
 
-pub use answers::packing::Packing;
-use leaves::{limits, rounding};
+pub use answers::packing::PackingRefusal;
+use leaves::limits;
+use leaves::width::Width;
 
 // 1, then 2: the order that document 01 gives to packing, unpacking and the packed product.
-pub(crate) fn refusal(width: bool, shape: bool) -> Packing
-    ensures { packing_number result ≡ first (width ⇒ 1 ∷ shape ⇒ 2 ∷ []) }
+pub(crate) fn check(b: u32, shape_bad: bool) -> Result<Width, PackingRefusal>
+    ensures number { number_of packing_refusal result ≡ first (width_bad b ⇒ 1 ∷ shape_bad ⇒ 2 ∷ []) }
+    ensures width { IfOk result (λ w. w.bits ≡ b) }
 {
-    if width {
-        return Packing::Width;
+    let width = Width::new(b).ok_or(PackingRefusal::Width)?;
+    if shape_bad {
+        return Err(PackingRefusal::Shape);
     }
-    if shape {
-        return Packing::Shape;
-    }
-    Packing::Done
+    Ok(width)
 }
 
 // 2: rows of k elements, lent as rows of `from` words and written as rows of `to`. A row of k elements takes k words
 // or fewer, and a sum takes one.
+#[tactic(auto, unfolding(crate::specs::Packing::packing_shape_bad))]
 pub(crate) fn shape_bad(
     rows: usize,
     k: usize,
@@ -35,203 +37,170 @@ pub(crate) fn shape_bad(
     requires { (from ≤ k + 1) × (to ≤ k + 1) }
     ensures { result ≡ packing_shape_bad rows k from to lent room }
 {
-    if limits::out_of(1, limits::COLUMNS_MOST, rows) {
-        return true;
-    }
-    if limits::out_of(1, limits::ROWS_MOST, k) {
-        return true;
-    }
-    if lent != rows * from {
-        return true;
-    }
-    room < rows * to
+    limits::out_of(1, limits::COLUMNS_MOST, rows)
+        || limits::out_of(1, limits::ROWS_MOST, k)
+        || lent != rows * from
+        || room < rows * to
 }
 
 // Slots in a word.
+#[tactic(auto, unfolding(crate::specs::Packing::factor_of))]
 pub(crate) fn factor(b: u32) -> usize
-    ensures { result ≡ factor_of b }
+    ensures value { result ≡ factor_of b }
+    ensures some { 0 < result }
 {
-    if b <= 8 {
-        return 4;
+    match b {
+        0..=8 => 4,
+        9..=10 => 3,
+        _ => 2,
     }
-    if b <= 10 {
-        return 3;
-    }
-    2
 }
 
 // Bits in a slot. For b 9 that is 10, not 9.
+#[tactic(auto, unfolding(crate::specs::Packing::slot_bits))]
 pub(crate) fn slot_bits(b: u32) -> u32
     ensures { result ≡ slot_bits b }
 {
-    if b <= 8 {
-        return 8;
+    match b {
+        0..=8 => 8,
+        9..=10 => 10,
+        _ => 16,
     }
-    if b <= 10 {
-        return 10;
-    }
-    16
 }
 
-// The words that k elements take: k / factor, rounded up. Written so that no k overflows.
+// The words that k elements take, of any b: the shape is tested beside the width.
 pub(crate) fn words_of(b: u32, k: usize) -> usize
     ensures { result ≡ words_of b k }
 {
-    let f = factor(b);
-    let full = k / f;
-    if k % f == 0 {
-        return full;
-    }
-    full + 1
+    k.div_ceil(factor(b))
 }
 
-// The b low bits, all set: 2^b - 1.
-pub(crate) fn low_mask(b: u32) -> u32
-    requires { b ≤ 14 }
-    ensures { result ≡ 2 ^ b - 1 }
+// The elements of `part` in one word: the low b bits of each, in a slot of its own.
+fn pack_word(width: Width, part: &[u32]) -> u32
+    requires { length part.now ≤ factor_of width.bits }
+    ensures { result ≡ word_of width.bits (slot_bits width.bits) part.now }
 {
-    rounding::modulus(b) - 1
-}
-
-pub(crate) fn least(a: usize, b: usize) -> usize
-    ensures { result ≡ min a b }
-{
-    if a <= b {
-        return a;
-    }
-    b
-}
-
-// The elements of `part` in one word: the low b bits of each, in slots of w bits.
-fn pack_word(b: u32, w: u32, part: &[u32]) -> u32
-    requires { Slotted b w (length part.now) }
-    ensures { result ≡ word_of b w part.now }
-{
-    let low = low_mask(b);
-    let mut word: u32 = 0;
-    let mut shift: u32 = 0;
-    let mut s: usize = 0;
-    while s < part.len() {
-        word = word | ((part[s] & low) << shift);
-        shift += w;
-        s += 1;
+    let low = width.greatest();
+    let slot = slot_bits(width.bits);
+    let mut word = 0;
+    let mut shift = 0;
+    for x in part {
+        word |= (*x & low) << shift;
+        shift += slot;
     }
     word
 }
 
 // A row, word by word. The last word takes what is left of the row.
-fn pack_row(b: u32, elements: &[u32], out: &mut [u32])
-    requires le_b { (4 ≤ b) × (b ≤ 14) }
-    requires elements_len_bound { length elements.now ≤ 4096 }
-    requires out_len { length out.old ≡ words_of b (length elements.now) }
-    ensures { out.new ≡ pack_row b elements.now }
+fn pack_row(width: Width, elements: &[u32], out: &mut [u32])
+    requires { length out.old ≡ words_of width.bits (length elements.now) }
+    ensures { out.new ≡ pack_row width.bits elements.now }
 {
-    let f = factor(b);
-    let w = slot_bits(b);
-    let mut q: usize = 0;
-    while q < out.len() {
-        let start = q * f;
-        let end = least(start + f, elements.len());
-        out[q] = pack_word(b, w, &elements[start..end]);
-        q += 1;
+    for (q, part) in elements.chunks(factor(width.bits)).enumerate() {
+        out[q] = pack_word(width, part);
     }
 }
 
-// Row after row, each from its place in the matrix to its place in the output.
-fn pack_rows(b: u32, rows: usize, k: usize, words: &[u32], out: &mut [u32])
-    requires le_b { (4 ≤ b) × (b ≤ 14) × (k ≤ 4096) }
-    requires words_len { length words.now ≡ rows * k }
-    requires k_in_bounds { rows * words_of b k ≤ length out.old }
-    ensures { out.new ≡ laid (packed b rows k words.now) out.old }
+// Row after row, each from its place in the lent words to its place in the output: `work` makes a row of `to` words from one of
+// `from`. Where it makes `made` of a row, whatever stood there, the output starts with the rows so made.
+fn each_row<F: Fn(&[u32], &mut [u32])>(
+    rows: usize,
+    from: usize,
+    to: usize,
+    words: &[u32],
+    out: &mut [u32],
+    work: F,
+)
+    requires words_len { rows * from ≤ length words.now }
+    requires out_len { rows * to ≤ length out.old }
+    requires callable { (x y : _) → length x.now ≡ from → length y.now ≡ to → F.pre work x y }
+    ensures { (made : List ℕ → List ℕ)
+        → ((xs : List ℕ) → length xs ≡ from → length (made xs) ≡ to)
+        → ((x y r z : _) → length x.now ≡ from → length y.now ≡ to → F.post work x y r z → z.now ≡ made x.now)
+        → out.new ≡ laid (join rows (λ j. made (row from words.now j))) out.old }
 {
-    let n = words_of(b, k);
-    let mut j: usize = 0;
-    while j < rows {
-        let from = j * k;
-        let from_end = from + k;
-        let to = j * n;
-        let to_end = to + n;
-        pack_row(b, &words[from..from_end], &mut out[to..to_end]);
-        j += 1;
+    for j in 0..rows {
+        let start = j * from;
+        let at = j * to;
+        work(&words[start..start + from], &mut out[at..at + to]);
     }
 }
 
 // Packs `rows` rows of k elements into the start of `out`, each row from a word of its own on.
-pub fn row_wise_compress(b: u32, rows: usize, k: usize, words: &[u32], out: &mut [u32]) -> Packing
+pub fn row_wise_compress(
+    b: u32,
+    rows: usize,
+    k: usize,
+    words: &[u32],
+    out: &mut [u32],
+) -> Result<(), PackingRefusal>
     ensures number { packing_number result ≡ compress_number b rows k (length words.now) (length out.old) }
     ensures out_after { out.new ≡ compress_after b rows k words.now out.old }
 {
-    let shape = shape_bad(rows, k, k, words_of(b, k), words.len(), out.len());
-    let answer = refusal(limits::width_bad(b), shape);
-    let Packing::Done = answer else {
-        return answer;
-    };
-    pack_rows(b, rows, k, words, out);
-    Packing::Done
+    let n = words_of(b, k);
+    let shape = shape_bad(rows, k, k, n, words.len(), out.len());
+    let width = check(b, shape)?;
+    each_row(
+        rows,
+        k,
+        n,
+        words,
+        out,
+        |elements, packed| pack_row(width, elements, packed),
+    );
+    Ok(())
 }
 
 // The low b bits of the slots of one word, as many as `part` has room for.
-fn unpack_word(b: u32, w: u32, word: u32, part: &mut [u32])
-    requires { Slotted b w (length part.old) }
-    ensures { part.new ≡ slots b w word (length part.old) }
+fn unpack_word(width: Width, word: u32, part: &mut [u32])
+    requires { length part.old ≤ factor_of width.bits }
+    ensures { part.new ≡ slots width.bits (slot_bits width.bits) word (length part.old) }
 {
-    let low = low_mask(b);
-    let mut shift: u32 = 0;
-    let mut s: usize = 0;
-    while s < part.len() {
-        part[s] = (word >> shift) & low;
-        shift += w;
-        s += 1;
+    let low = width.greatest();
+    let slot = slot_bits(width.bits);
+    let mut shift = 0;
+    for x in part.iter_mut() {
+        *x = (word >> shift) & low;
+        shift += slot;
     }
 }
 
-// The elements of a packed row, as many as the output has room for, word by word.
-fn unpack_row(b: u32, words: &[u32], out: &mut [u32])
-    requires le_b { (4 ≤ b) × (b ≤ 14) }
-    requires out_len_bound { length out.old ≤ 4096 }
-    requires words_len { length words.now ≡ words_of b (length out.old) }
-    ensures { out.new ≡ unpack_row b (length out.old) words.now }
+// The elements of a packed row, as many as the output has room for, word by word. By index: what is written through
+// `chunks_mut` is lost to the proof.
+#[tactic(auto, using(crate::proofs::packing::Sizes::starts))]
+fn unpack_row(width: Width, words: &[u32], out: &mut [u32])
+    requires { length words.now ≡ words_of width.bits (length out.old) }
+    ensures { out.new ≡ unpack_row width.bits (length out.old) words.now }
 {
-    let f = factor(b);
-    let w = slot_bits(b);
-    let mut q: usize = 0;
-    while q < words.len() {
+    let f = factor(width.bits);
+    for (q, word) in words.iter().enumerate() {
         let start = q * f;
-        let end = least(start + f, out.len());
-        unpack_word(b, w, words[q], &mut out[start..end]);
-        q += 1;
-    }
-}
-
-// Row after row, each from its place in the packed matrix to its place in the output.
-fn unpack_rows(b: u32, rows: usize, k: usize, words: &[u32], out: &mut [u32])
-    requires le_b { (4 ≤ b) × (b ≤ 14) × (k ≤ 4096) }
-    requires words_len { length words.now ≡ rows * words_of b k }
-    requires k_in_bounds { rows * k ≤ length out.old }
-    ensures { out.new ≡ laid (unpacked b rows k words.now) out.old }
-{
-    let n = words_of(b, k);
-    let mut j: usize = 0;
-    while j < rows {
-        let from = j * n;
-        let from_end = from + n;
-        let to = j * k;
-        let to_end = to + k;
-        unpack_row(b, &words[from..from_end], &mut out[to..to_end]);
-        j += 1;
+        let n = f.min(out.len() - start);
+        unpack_word(width, *word, &mut out[start..start + n]);
     }
 }
 
 // Unpacks `rows` rows of k elements into the start of `out`.
-pub fn row_wise_decompress(b: u32, rows: usize, k: usize, words: &[u32], out: &mut [u32]) -> Packing
+pub fn row_wise_decompress(
+    b: u32,
+    rows: usize,
+    k: usize,
+    words: &[u32],
+    out: &mut [u32],
+) -> Result<(), PackingRefusal>
     ensures number { packing_number result ≡ decompress_number b rows k (length words.now) (length out.old) }
     ensures out_after { out.new ≡ decompress_after b rows k words.now out.old }
 {
-    let shape = shape_bad(rows, k, words_of(b, k), k, words.len(), out.len());
-    let answer = refusal(limits::width_bad(b), shape);
-    let Packing::Done = answer else {
-        return answer;
-    };
-    unpack_rows(b, rows, k, words, out);
-    Packing::Done
+    let n = words_of(b, k);
+    let shape = shape_bad(rows, k, n, k, words.len(), out.len());
+    let width = check(b, shape)?;
+    each_row(
+        rows,
+        n,
+        k,
+        words,
+        out,
+        |packed, elements| unpack_row(width, packed, elements),
+    );
+    Ok(())
 }

@@ -1,4 +1,3 @@
--- Laws of the placement check: a key's four positions, the marks, and what a placement that passes says.
-pub mod Four
+-- Laws of the placement check: the marks, and what a placement that passes says.
 pub mod Marks
 pub mod Rule

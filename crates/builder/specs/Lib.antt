@@ -2,3 +2,4 @@
 pub mod Keys
 pub mod Placement
 pub mod Database
+pub mod Lent

@@ -1,19 +1,22 @@
 // Document 01, "Builder": writes each key's target row, in the order proposed, so that a key's four rows and its masks give
 // its row modulo 2^b.
-ghost use Rattle.std.specs.Prelude.{◌≡◌, ℕ, ◌+◌, ◌*◌, ◌%◌, ◌^◌, ◌<◌, ◌≤◌, false, length, if◌then◌else◌, nat_eq, slice_index};
+ghost use Rattle.std.specs.Prelude.{◌≡◌, ℕ, ◌+◌, ◌*◌, ◌%◌, ◌^◌, ◌<◌, ◌≤◌, false, length, slice_index};
 ghost use Rattle.laws.specs.Lists.{build, splice};
-ghost use Rattle.builder.specs.Keys.{lent_keys};
+ghost use Rattle.builder.specs.Keys.{target};
 ghost use Rattle.builder.specs.Placement.{placement_bad};
-ghost use Rattle.builder.specs.Database.{less, others_sum, database, keys_bad};
+ghost use Rattle.builder.specs.Database.{less, others_sum, target_row, database, keys_bad};
 ghost use Rattle.builder.specs.Database.{proposed, build_number, build_after};
-ghost use Rattle.plain.specs.Matrix.{cell};
+ghost use Rattle.builder.specs.Lent.{keys_in};
 ghost use Rattle.answers.specs.Database.{building_number};
 
+use super::keys::LentKeys;
 use super::placement;
-pub use answers::database::Building;
-use leaves::{limits, rounding, words};
+pub use answers::database::BuildingRefusal;
+use leaves::width::Width;
+use leaves::{limits, words};
 
 // 2: each dimension is tested before a product is taken. It says so of any b.
+#[tactic(auto, unfolding(crate::specs::Database::keys_bad))]
 fn keys_bad(
     r: usize,
     columns: usize,
@@ -24,72 +27,16 @@ fn keys_bad(
     targets: &[u32],
     database: &[u32],
 ) -> bool
-    ensures { result ≡ keys_bad (proposed 0 r columns count rows.now masks.now positions.now targets.now database.now) }
+    ensures { (b : ℕ) → result ≡ keys_bad (proposed b r columns count rows.now masks.now positions.now targets.now database.now) }
 {
-    if limits::out_of(1, limits::ROWS_MOST, r) {
-        return true;
-    }
-    if limits::out_of(1, limits::COLUMNS_MOST, columns) {
-        return true;
-    }
-    if r < count {
-        return true;
-    }
-    if rows.len() != count * columns {
-        return true;
-    }
-    if masks.len() != count * columns {
-        return true;
-    }
-    if positions.len() != count * 4 {
-        return true;
-    }
-    if targets.len() != count {
-        return true;
-    }
-    database.len() < r * columns
-}
-
-// 1, 2, 17, 15: the order that document 01 gives. Nothing is written yet.
-fn refusal(
-    b: u32,
-    r: usize,
-    columns: usize,
-    count: usize,
-    rows: &[u32],
-    masks: &[u32],
-    positions: &[u32],
-    targets: &[u32],
-    database: &[u32],
-) -> Building
-    ensures { building_number result ≡ build_number (proposed b r columns count rows.now masks.now positions.now targets.now database.now) }
-{
-    if limits::width_bad(b) {
-        return Building::Width;
-    }
-    if keys_bad(r, columns, count, rows, masks, positions, targets, database) {
-        return Building::Shape;
-    }
-    let large = limits::any_above(rounding::modulus(b) - 1, rows);
-    let broken = placement::placement_bad(r, count, positions, targets);
-    if large {
-        return Building::Element;
-    }
-    if broken {
-        return Building::Placement;
-    }
-    Building::Done
-}
-
-// Word j of the row at position s, or 0 where that is the target.
-fn other(columns: usize, ps: [u32; 4], index: u32, j: usize, s: usize, words: &[u32]) -> u32
-    requires { (s < 4) × (j < columns) × (slice_index ps s * columns + columns ≤ length words.now) }
-    ensures { result ≡ (if nat_eq s index then 0 else cell columns words.now (slice_index ps s) j) }
-{
-    if s == index as usize {
-        return 0;
-    }
-    words[ps[s] as usize * columns + j]
+    limits::out_of(1, limits::ROWS_MOST, r)
+        || limits::out_of(1, limits::COLUMNS_MOST, columns)
+        || r < count
+        || rows.len() != count * columns
+        || masks.len() != count * columns
+        || positions.len() != count * 4
+        || targets.len() != count
+        || database.len() < r * columns
 }
 
 // Column j of the rows at the positions but the target, summed and wrapped.
@@ -98,14 +45,13 @@ fn others_sum(columns: usize, ps: [u32; 4], index: u32, j: usize, words: &[u32])
     requires by_index { (s : ℕ) → s < 4 → slice_index ps s * columns + columns ≤ length words.now }
     ensures { result ≡ others_sum columns words.now ps index j % 2 ^ 32 }
 {
-    let mut acc: u32 = 0;
-    let mut s: usize = 0;
-    while s < 4 {
-        let x = other(columns, ps, index, j, s, words);
-        acc = std::num::wrapping_add_u32(acc, x);
-        s += 1;
+    let mut sum: u32 = 0;
+    for (s, p) in ps.iter().enumerate() {
+        if s != index as usize {
+            sum = sum.wrapping_add(words[*p as usize * columns + j]);
+        }
     }
-    acc
+    sum
 }
 
 // The other rows, summed column by column and wrapped.
@@ -114,101 +60,70 @@ fn rest(columns: usize, ps: [u32; 4], index: u32, words: &[u32], sums: &mut [u32
     requires by_index { (s : ℕ) → s < 4 → slice_index ps s * columns + columns ≤ length words.now }
     ensures { sums.new ≡ build columns (λ j. others_sum columns words.now ps index j % 2 ^ 32) }
 {
-    let mut j: usize = 0;
-    while j < columns {
-        sums[j] = others_sum(columns, ps, index, j, words);
-        j += 1;
+    for (j, sum) in sums.iter_mut().enumerate() {
+        *sum = others_sum(columns, ps, index, j, words);
     }
 }
 
 // a less c, modulo 2^b. The sum may wrap: 2^b divides 2^32.
-fn subtract(b: u32, a: u32, c: u32) -> u32
-    requires { b ≤ 14 }
-    ensures { result ≡ less b a c }
+fn subtract(width: Width, a: u32, c: u32) -> u32
+    ensures { result ≡ less width.bits a c }
 {
-    let m = rounding::modulus(b);
-    let back = m - c % m;
-    std::num::wrapping_add_u32(a, back) % m
+    let m = width.modulus();
+    a.wrapping_add(m - c % m) % m
 }
 
 // Writes the target row: its row less the other rows' sums less the masks.
-fn subtract_row(b: u32, row: &[u32], sums: &[u32], masks: &[u32], target: &mut [u32])
-    requires b_bound { b ≤ 14 }
-    requires row_len { (length row.now ≡ length target.old) × (length sums.now ≡ length target.old) × (length masks.now ≡ length target.old) }
-    ensures { target.new ≡ build (length target.old) (λ j. less b (less b (slice_index row.now j) (slice_index sums.now j)) (slice_index masks.now j)) }
+fn subtract_row(width: Width, row: &[u32], sums: &[u32], masks: &[u32], target: &mut [u32])
+    requires { (length row.now ≡ length target.old) × (length sums.now ≡ length target.old) × (length masks.now ≡ length target.old) }
+    ensures { target.new ≡ build (length target.old) (λ j. less width.bits (less width.bits (slice_index row.now j) (slice_index sums.now j)) (slice_index masks.now j)) }
 {
-    let mut j: usize = 0;
-    while j < target.len() {
-        let less = subtract(b, row[j], sums[j]);
-        target[j] = subtract(b, less, masks[j]);
-        j += 1;
+    for (j, x) in target.iter_mut().enumerate() {
+        let less = subtract(width, row[j], sums[j]);
+        *x = subtract(width, less, masks[j]);
     }
 }
 
-// Writes one key's target row into its place inside the database. What `sums` held does not count.
-fn place_key(
-    b: u32,
-    columns: usize,
-    ps: [u32; 4],
-    index: u32,
-    row: &[u32],
-    masks: &[u32],
-    sums: &mut [u32],
-    words: &mut [u32],
-)
-    requires b_bound { (b ≤ 14) × (index < 4) }
-    requires row_len { (length row.now ≡ columns) × (length masks.now ≡ columns) × (length sums.old ≡ columns) }
-    requires by_index { (s : ℕ) → s < 4 → slice_index ps s * columns + columns ≤ length words.old }
-    ensures { words.new ≡ splice (slice_index ps index * columns) (build columns (λ j. less b (slice_index row.now j) (others_sum columns words.old ps index j + slice_index masks.now j))) words.old }
+// Writes key i's target row into its place inside the database. What `sums` held does not count.
+fn place_key(width: Width, keys: LentKeys<'_>, i: usize, sums: &mut [u32], words: &mut [u32])
+    requires i_lt_count { i < keys.count }
+    requires rule { placement_bad keys.r (keys_in keys) keys.count ≡ false }
+    requires words_len { (length sums.old ≡ keys.columns) × (length words.old ≡ keys.r * keys.columns) }
+    ensures { words.new ≡ splice (target (keys_in keys.entry) i * keys.entry.columns) (target_row width.bits keys.entry.columns (keys_in keys.entry) words.old i) words.old }
 {
-    rest(columns, ps, index, words, sums);
-    let start = ps[index as usize] as usize * columns;
-    let end = start + columns;
-    subtract_row(b, row, sums, masks, &mut words[start..end]);
+    let ps = keys.places(i);
+    let index = keys.targets[i];
+    rest(keys.columns, ps, index, words, sums);
+    let from = i * keys.columns;
+    let to = from + keys.columns;
+    let start = ps[index as usize] as usize * keys.columns;
+    let end = start + keys.columns;
+    subtract_row(
+        width,
+        &keys.rows[from..to],
+        sums,
+        &keys.masks[from..to],
+        &mut words[start..end],
+    );
 }
 
 // The whole database: all zero, whatever the lent words held, and then key after key, in the order proposed.
-fn place_keys(
-    b: u32,
-    r: usize,
-    columns: usize,
-    count: usize,
-    rows: &[u32],
-    masks: &[u32],
-    positions: &[u32],
-    targets: &[u32],
-    words: &mut [u32],
-)
-    requires b_bound { (b ≤ 14) × (columns ≤ 512) × (length words.old ≡ r * columns) }
-    requires rows_len { (length rows.now ≡ count * columns) × (length masks.now ≡ count * columns) }
-    requires positions_len { (length positions.now ≡ count * 4) × (length targets.now ≡ count) }
-    requires count_value { placement_bad r (lent_keys columns rows.now masks.now positions.now targets.now) count ≡ false }
-    ensures { words.new ≡ database b r columns (lent_keys columns rows.now masks.now positions.now targets.now) count }
+#[tactic(auto, unfolding(crate::specs::Database::database))]
+fn place_keys(width: Width, keys: LentKeys<'_>, words: &mut [u32])
+    requires rule { placement_bad keys.r (keys_in keys) keys.count ≡ false }
+    requires words_len { length words.old ≡ keys.r * keys.columns }
+    ensures { words.new ≡ database width.bits keys.entry.r keys.entry.columns (keys_in keys.entry) keys.entry.count }
 {
     words::zero(words);
     let mut sums = [0u32; limits::COLUMNS_MOST];
-    let start: usize = 0;
-    let mut i: usize = 0;
-    while i < count {
-        let from = i * columns;
-        let to = from + columns;
-        let ps = placement::places(positions, i);
-        place_key(
-            b,
-            columns,
-            ps,
-            targets[i],
-            &rows[from..to],
-            &masks[from..to],
-            &mut sums[start..columns],
-            words,
-        );
-        i += 1;
+    for i in 0..keys.count {
+        place_key(width, keys, i, &mut sums[..keys.columns], words);
     }
 }
 
 // Builds a database of r rows of `columns` elements from `count` keys, lent flat, key after key, in their writing order.
-// A key has four positions, and its target is an index of them, 0 to 3.
+// A key has four positions, and its target is an index of them, 0 to 3. The parameters are the C interface's.
+#[tactic(auto, unfolding(crate::specs::Database::build_number))]
 pub fn build_database(
     b: u32,
     r: usize,
@@ -219,20 +134,15 @@ pub fn build_database(
     positions: &[u32],
     targets: &[u32],
     database: &mut [u32],
-) -> Building
+) -> Result<(), BuildingRefusal>
     ensures number { building_number result ≡ build_number (proposed b r columns count rows.now masks.now positions.now targets.now database.old) }
     ensures database_after { database.new ≡ build_after (proposed b r columns count rows.now masks.now positions.now targets.now database.old) }
 {
-    let answer = refusal(
-        b, r, columns, count, rows, masks, positions, targets, database,
-    );
-    let Building::Done = answer else {
-        return answer;
-    };
-    let start: usize = 0;
-    let end = r * columns;
-    place_keys(
-        b,
+    let width = Width::new(b).ok_or(BuildingRefusal::Width)?;
+    if keys_bad(r, columns, count, rows, masks, positions, targets, database) {
+        return Err(BuildingRefusal::Shape);
+    }
+    let keys = LentKeys {
         r,
         columns,
         count,
@@ -240,7 +150,13 @@ pub fn build_database(
         masks,
         positions,
         targets,
-        &mut database[start..end],
-    );
-    Building::Done
+    };
+    if limits::any_above(width.greatest(), rows) {
+        return Err(BuildingRefusal::Element);
+    }
+    if placement::placement_bad(keys) {
+        return Err(BuildingRefusal::Placement);
+    }
+    place_keys(width, keys, &mut database[..r * columns]);
+    Ok(())
 }

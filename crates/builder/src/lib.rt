@@ -3,4 +3,5 @@
 #![tactic(auto)]
 
 pub mod database;
+mod keys;
 mod placement;

@@ -1,158 +1,144 @@
-// The calls on the table and the slab at hand. A new table comes over the slab as the calls before left it.
-use super::line::{Sizes, Words};
-use super::{lend, print};
-use abi_client::open::{Opened, Positions};
+// The table and the slab at hand, and the calls on them. A new table comes over the slab as the calls before left it.
+use super::args::Args;
+use super::fault::Fault;
+use super::print::{List, Shown};
+use abi_client::open::Positions;
 use abi_client::{discard, open, reply, table};
 use pending::table::Table;
-use std::io;
 
-pub(crate) fn fresh(rt: &impl Print, n: &Sizes, w: &Words) -> io::Result<Table> {
-    let made = table::ladletwig_fresh(w[1], n[2]);
-    print::number(rt, made.number as usize)?;
-    let t = made.table;
-    print::table(rt, t)?;
-    Ok(t)
+// The slab has room for the secrets of every table that is opened over.
+#[derive(Drop)]
+pub(crate) struct State {
+    table: Table,
+    slab: [u32; 4608],
 }
 
-fn places(w: &Words) -> Positions {
-    Positions {
-        p0: w[5],
-        p1: w[6],
-        p2: w[7],
-        p3: w[8],
+// The first n words of the slab, or all of them.
+fn lent(slab: &mut [u32], n: usize) -> &mut [u32] {
+    let n = n.min(slab.len());
+    &mut slab[..n]
+}
+
+impl State {
+    // The table before the first call is what a refused `fresh` gives.
+    pub(crate) fn new() -> State {
+        State {
+            table: table::ladletwig_fresh(0, 0).table,
+            slab: [7; 4608],
+        }
     }
-}
 
-fn asked(
-    n: &Sizes,
-    w: &Words,
-    t: Table,
-    slab: &mut [u32],
-    secret: &mut [u32],
-    error: &mut [u32],
-    query: &mut [u32],
-) -> Opened {
-    open::ladletwig_query_for_4_wise_xor_filter(
-        t,
-        slab,
-        n[2],
-        n[3],
-        lend::part(w, 0),
-        lend::part(w, 1),
-        w[4],
-        places(w),
-        &lend::digest(w, 2),
-        lend::part(w, 3),
-        secret,
-        error,
-        query,
-    )
-}
-
-// Secret, error and query are lent from copies of the line, one each.
-pub(crate) fn open(
-    rt: &impl Print,
-    n: &Sizes,
-    w: &Words,
-    copy: Words,
-    t: Table,
-    slab: &mut [u32],
-) -> io::Result<Table> {
-    let mut secrets = copy;
-    let mut errors = copy;
-    let mut queries = copy;
-    let secret = lend::part_mut(w, &mut secrets, 4);
-    let error = lend::part_mut(w, &mut errors, 5);
-    let query = lend::part_mut(w, &mut queries, 6);
-    let o = asked(n, w, t, slab, secret, error, query);
-    print::pair(rt, o.number, o.ticket as usize)?;
-    print::value(rt, o.read)?;
-    let after = o.table;
-    print::table(rt, after)?;
-    print::list(rt, secret)?;
-    print::list(rt, error)?;
-    print::list(rt, query)?;
-    print::list(rt, slab)?;
-    Ok(after)
-}
-
-pub(crate) fn reply(rt: &impl Print, w: &Words, t: Table, slab: &mut [u32]) -> io::Result<Table> {
-    let mut values = lend::narrowed(w);
-    let value = lend::bytes_mut(w, &mut values, 2);
-    let r = reply::ladletwig_process_response(
-        t,
-        slab,
-        w[2],
-        lend::part(w, 0),
-        lend::part(w, 1),
-        value,
-    );
-    print::pair(rt, r.number, r.length)?;
-    let after = r.table;
-    print::table(rt, after)?;
-    print::bytes(rt, value)?;
-    print::list(rt, slab)?;
-    Ok(after)
-}
-
-pub(crate) fn discard(rt: &impl Print, w: &Words, t: Table, slab: &mut [u32]) -> io::Result<Table> {
-    let d = discard::ladletwig_discard_query(t, slab, w[2]);
-    print::number(rt, d.number as usize)?;
-    let after = d.table;
-    print::table(rt, after)?;
-    print::list(rt, slab)?;
-    Ok(after)
-}
-
-fn with_number(numbers: [u32; 64], slot: usize, x: u32) -> [u32; 64] {
-    if 64 <= slot {
-        return numbers;
+    pub(crate) fn fresh(&mut self, rt: &impl Print, mut args: Args<'_>) -> Result<(), Fault> {
+        let (b, columns) = (args.word()?, args.size()?);
+        args.end()?;
+        let made = table::ladletwig_fresh(b, columns);
+        self.table = made.table;
+        print!(rt; "{}{}", made.number, Shown(&self.table))?;
+        Ok(())
     }
-    let mut changed = numbers;
-    changed[slot] = x;
-    changed
-}
 
-fn with_byte(digests: [u8; 2048], at: usize, x: u32) -> [u8; 2048] {
-    if 2048 <= at {
-        return digests;
+    pub(crate) fn malformed(&self, rt: &impl Print, args: Args<'_>) -> Result<(), Fault> {
+        args.end()?;
+        rt.print(table::ladletwig_is_malformed(self.table))?;
+        Ok(())
     }
-    let mut changed = digests;
-    changed[at] = (x % 256) as u8;
-    changed
-}
 
-// Not a call: makes the table one that no call gives. b, C and next are set, then a slot's number, then a byte of the
-// digests; a slot or a byte that there is none of leaves them as they are.
-pub(crate) fn set(rt: &impl Print, n: &Sizes, w: &Words, t: Table) -> io::Result<Table> {
-    let numbers = t.numbers;
-    let digests = t.digests;
-    let numbers_then = with_number(numbers, n[4], w[5]);
-    let digests_then = with_byte(digests, n[6], w[7]);
-    let u = Table {
-        b: w[1],
-        columns: n[2],
-        next: w[3],
-        numbers: numbers_then,
-        digests: digests_then,
-    };
-    print::text(rt, b"set")?;
-    print::table(rt, u)?;
-    Ok(u)
-}
-
-fn fill(slab: &mut [u32], x: u32) {
-    let mut i: usize = 0;
-    while i < slab.len() {
-        slab[i] = x;
-        i += 1;
+    pub(crate) fn open(&mut self, rt: &impl Print, mut args: Args<'_>) -> Result<(), Fault> {
+        let slab = lent(&mut self.slab, args.size()?);
+        let (n, r, interval) = (args.size()?, args.size()?, args.word()?);
+        let positions = Positions {
+            p0: args.word()?,
+            p1: args.word()?,
+            p2: args.word()?,
+            p3: args.word()?,
+        };
+        let (matrix, hint, digest) = (args.words()?, args.words()?, args.digest()?);
+        let (words, mut secret) = (args.words()?, args.words()?);
+        let (mut error, mut query) = (args.words()?, args.words()?);
+        args.end()?;
+        let o = open::ladletwig_query_for_4_wise_xor_filter(
+            self.table,
+            slab,
+            n,
+            r,
+            &matrix,
+            &hint,
+            interval,
+            positions,
+            &digest,
+            &words,
+            &mut secret,
+            &mut error,
+            &mut query,
+        );
+        self.table = o.table;
+        print!(rt;
+            "{} {} {}{}",
+            o.number,
+            o.ticket,
+            o.read,
+            Shown(&self.table)
+        )?;
+        print!(rt;
+            "{}{}{}{}",
+            List(&secret),
+            List(&error),
+            List(&query),
+            List(slab)
+        )?;
+        Ok(())
     }
-}
 
-// Not a call: lays one value in every word of the slab.
-pub(crate) fn lay(rt: &impl Print, w: &Words, t: Table, slab: &mut [u32]) -> io::Result<Table> {
-    fill(slab, w[1]);
-    print::text(rt, b"slab")?;
-    print::list(rt, slab)?;
-    Ok(t)
+    pub(crate) fn reply(&mut self, rt: &impl Print, mut args: Args<'_>) -> Result<(), Fault> {
+        let slab = lent(&mut self.slab, args.size()?);
+        let ticket = args.word()?;
+        let (response, masks, mut value) = (args.words()?, args.words()?, args.bytes()?);
+        args.end()?;
+        let r = reply::ladletwig_process_response(
+            self.table, slab, ticket, &response, &masks, &mut value,
+        );
+        self.table = r.table;
+        print!(rt; "{} {}{}", r.number, r.length, Shown(&self.table))?;
+        print!(rt; "{}{}", List(&value), List(slab))?;
+        Ok(())
+    }
+
+    pub(crate) fn discard(&mut self, rt: &impl Print, mut args: Args<'_>) -> Result<(), Fault> {
+        let slab = lent(&mut self.slab, args.size()?);
+        let ticket = args.word()?;
+        args.end()?;
+        let d = discard::ladletwig_discard_query(self.table, slab, ticket);
+        self.table = d.table;
+        print!(rt; "{}{}{}", d.number, Shown(&self.table), List(slab))?;
+        Ok(())
+    }
+
+    // Not a call: makes the table one that no call gives. b, C and next are set, then a slot's number, then a byte of the
+    // digests; a slot or a byte that there is none of leaves them as they are.
+    pub(crate) fn set(&mut self, rt: &impl Print, mut args: Args<'_>) -> Result<(), Fault> {
+        let (b, columns, next) = (args.word()?, args.size()?, args.word()?);
+        let (slot, number) = (args.size()?, args.word()?);
+        let (at, byte) = (args.size()?, args.word()?);
+        args.end()?;
+        self.table.b = b;
+        self.table.columns = columns;
+        self.table.next = next;
+        if let Some(x) = self.table.numbers.get_mut(slot) {
+            *x = number;
+        }
+        if let Some(x) = self.table.digests.get_mut(at) {
+            *x = (byte % 256) as u8;
+        }
+        print!(rt; "set{}", Shown(&self.table))?;
+        Ok(())
+    }
+
+    // Not a call: lays one value in every word of the slab.
+    pub(crate) fn lay(&mut self, rt: &impl Print, mut args: Args<'_>) -> Result<(), Fault> {
+        let x = args.word()?;
+        args.end()?;
+        self.slab.fill(x);
+        print!(rt; "slab{}", List(&self.slab))?;
+        Ok(())
+    }
 }

@@ -1,2 +1,2 @@
 // Document 01, "Lines": what stands in `terminal`, under the client's name.
-pub use terminal::lines::{Reading, Writing, read_response_line, write_query_line};
+pub use terminal::lines::{ReadingRefusal, WritingRefusal, read_response_line, write_query_line};

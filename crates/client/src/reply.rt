@@ -1,2 +1,2 @@
 // Document 01, "Reply": what stands in `replies`, under the client's name.
-pub use replies::reply::{Replied, Replying, process_response};
+pub use replies::reply::{Replied, ReplyingRefusal, process_response};

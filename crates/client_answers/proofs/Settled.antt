@@ -1,20 +1,27 @@
 -- Two results that a function's own contract allows for one answer coincide: each is a definition's value.
 use mathlib.Core.Path.{refl, ◌∙⁻¹◌}
 use Rattle.laws.specs.Uniqueness.{AllowsOne}
-use Rattle.client_answers.proofs.table.told_making
-use Rattle.client_answers.proofs.«open».told_opening
-use Rattle.client_answers.proofs.reply.told_replying
-use Rattle.client_answers.proofs.discard.told_discarding
+use Rattle.client_answers.proofs.table.MakingRefusalRefusal.number as making_refusal
+use Rattle.client_answers.proofs.«open».OpeningRefusalRefusal.number as opening_refusal
+use Rattle.client_answers.proofs.«open».OpenToldFromResultTuple2U32UsizeOpeningRefusal.from as told_opening
+use Rattle.client_answers.proofs.reply.ReplyingRefusalRefusal.number as replying_refusal
+use Rattle.client_answers.proofs.reply.ReplyToldFromResultUsizeReplyingRefusal.from as told_replying
+use Rattle.client_answers.proofs.discard.DiscardingRefusalRefusal.number as discarding_refusal
 
-pub told_making_settled : AllowsOne told_making.Kinds.ps told_making.Kinds.r told_making.Reads.Post
-told_making_settled κs a x y v w p q = (p ∙⁻¹ q, refl)
+pub making_refusal_settled : AllowsOne making_refusal.Kinds.ps making_refusal.Kinds.r making_refusal.Reads.Post
+making_refusal_settled κs a x y v w p q = (p ∙⁻¹ q, refl)
+
+pub opening_refusal_settled : AllowsOne opening_refusal.Kinds.ps opening_refusal.Kinds.r opening_refusal.Reads.Post
+opening_refusal_settled κs a x y v w p q = (p ∙⁻¹ q, refl)
 
 pub told_opening_settled : AllowsOne told_opening.Kinds.ps told_opening.Kinds.r told_opening.Reads.Post
-told_opening_settled κs a x y v w p q =
-    (λ i. record { number = (p.0 ∙⁻¹ q.0) i; ticket = (p.1 ∙⁻¹ q.1) i; read = (p.2 ∙⁻¹ q.2) i }, refl)
+told_opening_settled κs a x y v w p q = (p ∙⁻¹ q, refl)
+
+pub replying_refusal_settled : AllowsOne replying_refusal.Kinds.ps replying_refusal.Kinds.r replying_refusal.Reads.Post
+replying_refusal_settled κs a x y v w p q = (p ∙⁻¹ q, refl)
 
 pub told_replying_settled : AllowsOne told_replying.Kinds.ps told_replying.Kinds.r told_replying.Reads.Post
-told_replying_settled κs a x y v w p q = (λ i. record { number = (p.0 ∙⁻¹ q.0) i; length = (p.1 ∙⁻¹ q.1) i }, refl)
+told_replying_settled κs a x y v w p q = (p ∙⁻¹ q, refl)
 
-pub told_discarding_settled : AllowsOne told_discarding.Kinds.ps told_discarding.Kinds.r told_discarding.Reads.Post
-told_discarding_settled κs a x y v w p q = (p ∙⁻¹ q, refl)
+pub discarding_refusal_settled : AllowsOne discarding_refusal.Kinds.ps discarding_refusal.Kinds.r discarding_refusal.Reads.Post
+discarding_refusal_settled κs a x y v w p q = (p ∙⁻¹ q, refl)

@@ -1,12 +1,12 @@
-// Document 01, "Reply": the answers of a discard.
+// Document 01, "Reply": the answers.
 ghost use Rattle.std.specs.Prelude.{◌≡◌};
-ghost use Rattle.client_answers.specs.Discard.{discarding_number};
+ghost use Rattle.client_answers.specs.Discard.{discarding_refusal, discarding_refuses};
 
-// What a discard answers.
-#[derive(Clone, Copy)]
-pub enum Discarding {
-    // 0: the ticket is closed.
-    Done,
+use answers::refusal::Refusal;
+
+// Why a discard is refused.
+#[derive(Clone, Copy, Debug, PartialEq, Eq)]
+pub enum DiscardingRefusal {
     // 18: the table is malformed.
     Table,
     // 2: the slab's length is not 64·C.
@@ -15,13 +15,16 @@ pub enum Discarding {
     NotPending,
 }
 
-pub fn told_discarding(answer: Discarding) -> u32
-    ensures { result ≡ discarding_number answer }
-{
-    match answer {
-        Discarding::Done => 0,
-        Discarding::Table => 18,
-        Discarding::Shape => 2,
-        Discarding::NotPending => 10,
+impl Refusal for DiscardingRefusal {
+    ghost number = { discarding_refusal };
+
+    ghost refuses = { discarding_refuses };
+
+    fn number(self) -> u32 {
+        match self {
+            DiscardingRefusal::Table => 18,
+            DiscardingRefusal::Shape => 2,
+            DiscardingRefusal::NotPending => 10,
+        }
     }
 }

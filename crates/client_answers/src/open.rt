@@ -1,12 +1,12 @@
 // Document 01, "Open": the answers.
 ghost use Rattle.std.specs.Prelude.{◌≡◌};
-ghost use Rattle.client_answers.specs.Open.{opening_number, opening_ticket, opening_read};
+ghost use Rattle.client_answers.specs.Open.{opening_refusal, opening_refuses, told_opening};
 
-// What an open answers.
-#[derive(Clone, Copy)]
-pub enum Opening {
-    // 0: the ticket, and the count of words read over both samples.
-    Ticket(u32, usize),
+use answers::refusal::{Refusal, told};
+
+// Why an open is refused.
+#[derive(Clone, Copy, Debug, PartialEq, Eq)]
+pub enum OpeningRefusal {
     // 18: the table is malformed.
     Table,
     // 2: n, R or a lent length outside its limit, or the query too short.
@@ -27,7 +27,27 @@ pub enum Opening {
     Wraps(usize),
 }
 
-// What it tells: the ticket is 0 on a refusal, and so is the count of words read, but for 6.
+impl Refusal for OpeningRefusal {
+    ghost number = { opening_refusal };
+
+    ghost refuses = { opening_refuses };
+
+    fn number(self) -> u32 {
+        match self {
+            OpeningRefusal::Table => 18,
+            OpeningRefusal::Shape => 2,
+            OpeningRefusal::Interval => 4,
+            OpeningRefusal::Positions => 5,
+            OpeningRefusal::Pending => 7,
+            OpeningRefusal::Full => 8,
+            OpeningRefusal::Numbers => 9,
+            OpeningRefusal::Short => 3,
+            OpeningRefusal::Wraps(_) => 6,
+        }
+    }
+}
+
+// What it tells: the ticket is 0 on a refusal, and so is the count of words read over both samples, but for 6.
 #[repr(C)]
 #[derive(Clone, Copy)]
 pub struct OpenTold {
@@ -36,29 +56,19 @@ pub struct OpenTold {
     pub read: usize,
 }
 
-fn told(number: u32, ticket: u32, read: usize) -> OpenTold
-    ensures { (result.number ≡ number) × (result.ticket ≡ ticket) × (result.read ≡ read) }
-{
-    OpenTold {
-        number,
-        ticket,
-        read,
-    }
-}
+impl From<Result<(u32, usize), OpeningRefusal>> for OpenTold {
+    ghost from_gives = { λ answer t. t ≡ told_opening answer };
 
-pub fn told_opening(answer: Opening) -> OpenTold
-    ensures { (result.number ≡ opening_number answer) × (result.ticket ≡ opening_ticket answer) × (result.read ≡ opening_read answer) }
-{
-    match answer {
-        Opening::Ticket(ticket, read) => told(0, ticket, read),
-        Opening::Table => told(18, 0, 0),
-        Opening::Shape => told(2, 0, 0),
-        Opening::Interval => told(4, 0, 0),
-        Opening::Positions => told(5, 0, 0),
-        Opening::Pending => told(7, 0, 0),
-        Opening::Full => told(8, 0, 0),
-        Opening::Numbers => told(9, 0, 0),
-        Opening::Short => told(3, 0, 0),
-        Opening::Wraps(read) => told(6, 0, read),
+    fn from(answer: Result<(u32, usize), OpeningRefusal>) -> OpenTold {
+        let (ticket, read) = match answer {
+            Ok(opened) => opened,
+            Err(OpeningRefusal::Wraps(read)) => (0, read),
+            Err(_) => (0, 0),
+        };
+        OpenTold {
+            number: told(answer),
+            ticket,
+            read,
+        }
     }
 }

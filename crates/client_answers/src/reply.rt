@@ -1,12 +1,12 @@
 // Document 01, "Reply": the answers.
 ghost use Rattle.std.specs.Prelude.{◌≡◌};
-ghost use Rattle.client_answers.specs.Reply.{replying_number, replying_length};
+ghost use Rattle.client_answers.specs.Reply.{replying_refusal, replying_refuses, told_replying};
 
-// What a reply answers.
-#[derive(Clone, Copy)]
-pub enum Replying {
-    // 0: the value's length; the ticket is closed.
-    Value(usize),
+use answers::refusal::{Refusal, told};
+
+// Why a reply is refused.
+#[derive(Clone, Copy, Debug, PartialEq, Eq)]
+pub enum ReplyingRefusal {
     // 18: the table is malformed.
     Table,
     // 2: the slab or the masks of a wrong length, or the value buffer too short.
@@ -23,6 +23,24 @@ pub enum Replying {
     Digest,
 }
 
+impl Refusal for ReplyingRefusal {
+    ghost number = { replying_refusal };
+
+    ghost refuses = { replying_refuses };
+
+    fn number(self) -> u32 {
+        match self {
+            ReplyingRefusal::Table => 18,
+            ReplyingRefusal::Shape => 2,
+            ReplyingRefusal::NotPending => 10,
+            ReplyingRefusal::Length => 12,
+            ReplyingRefusal::Element => 17,
+            ReplyingRefusal::Marker => 13,
+            ReplyingRefusal::Digest => 14,
+        }
+    }
+}
+
 // What it tells: the value's length is 0 on a refusal.
 #[repr(C)]
 #[derive(Clone, Copy)]
@@ -31,23 +49,13 @@ pub struct ReplyTold {
     pub length: usize,
 }
 
-fn told(number: u32, length: usize) -> ReplyTold
-    ensures { (result.number ≡ number) × (result.length ≡ length) }
-{
-    ReplyTold { number, length }
-}
+impl From<Result<usize, ReplyingRefusal>> for ReplyTold {
+    ghost from_gives = { λ answer t. t ≡ told_replying answer };
 
-pub fn told_replying(answer: Replying) -> ReplyTold
-    ensures { (result.number ≡ replying_number answer) × (result.length ≡ replying_length answer) }
-{
-    match answer {
-        Replying::Value(length) => told(0, length),
-        Replying::Table => told(18, 0),
-        Replying::Shape => told(2, 0),
-        Replying::NotPending => told(10, 0),
-        Replying::Length => told(12, 0),
-        Replying::Element => told(17, 0),
-        Replying::Marker => told(13, 0),
-        Replying::Digest => told(14, 0),
+    fn from(answer: Result<usize, ReplyingRefusal>) -> ReplyTold {
+        ReplyTold {
+            number: told(answer),
+            length: answer.unwrap_or(0),
+        }
     }
 }

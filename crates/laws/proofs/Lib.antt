@@ -8,4 +8,5 @@ pub mod Below
 pub mod Sums
 pub mod Digits
 pub mod Search
+pub mod Ranges
 pub mod Bits

@@ -76,6 +76,14 @@ build-get_or xs d =
     ext_get_or d (build (length xs) (λ i. get_or xs i d)) xs n
     (λ i h. get_or-build (length xs) (λ i. get_or xs i d) i d (rw n at h))
 
+-- a list whose elements are these
+pub build-from : {A : Type 0} (n : ℕ) (f : ℕ → A) (xs : List A) (d : A) → length xs ≡ n → ((i : ℕ) → i < n → get_or xs i d ≡ f i)
+    → xs ≡ build n f
+build-from n f xs d len h =
+    sym (build-get_or xs d)
+    ∙ ap (λ (k : ℕ). build k (λ i. get_or xs i d)) len
+    ∙ build_ext n (λ i. get_or xs i d) f h
+
 -- m elements, and then n more
 pub build-add : {A : Type 0} (m n : ℕ) (f : ℕ → A) → build (m + n) f ≡ build m f ++ build n (λ i. f (m + i))
 unfolding build

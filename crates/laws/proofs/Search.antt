@@ -2,11 +2,18 @@
 use mathlib.Core.Path.{◌≡◌, refl, sym, ap, ap₂, ◌∙◌}
 use mathlib.Core.Bool.{Bool, true, false, true≢false, cond, ◌||◌, or-true}
 use Prim.Native.Nat.{ℕ, zero, suc, ◌+◌, ◌<◌, ◌≤◌}
-use native.Mathlib.Nat.{not-suc-le-zero}
+use native.Mathlib.Nat.{not-suc-le-zero, zero-add}
 use native.Mathlib.Numerals.{add-one}
 use native.Mathlib.Omega.{arith}
 use native.Mathlib.Decide.{dec_lt, ℕ_discrete}
 use lib.Dec.{ltb}
+use Rattle.std.specs.Prelude.{List, length, take, get_or, Some, None}
+use Rattle.std.specs.List.{list_any, position_or_len, range_with_len}
+use Rattle.std.specs.Option.{unwrap_or}
+use Rattle.std.proofs.Math.Seq.{take-length}
+use Rattle.std.proofs.lemmas.List.Folds.{list_any_more}
+use Rattle.std.proofs.lemmas.List.Sums.{position_or_len_is}
+use Rattle.std.proofs.lemmas.List.FromFn.{length-range_with_len, get_or-range_with_len}
 use borrow.Author.Tests.{lt-ltb, le-ltb, ltb-true}
 use Rattle.laws.specs.Search.{some, lowest}
 use Rattle.laws.proofs.Refusals.{neither}
@@ -140,3 +147,40 @@ some_changed p q n s h same off = by_tests (some n p) (q s) refl refl
     by_tests false false e f =
         some-false q n
         (λ i l. elim (ℕ_discrete i s) [ yes g ↦ ap q g ∙ f | no g ↦ same i g ∙ none_holds p n i e l ])
+
+-- a test over a list's elements is one over their places
+pub list_any-some : {A : Type 0} (p : A → Bool) (d : A) (xs : List A) → list_any p xs ≡ some (length xs) (λ i. p (get_or xs i d))
+unfolding some
+list_any-some {A} p d xs = sym (ap (list_any p) (take-length xs)) ∙ started (length xs) (omega arith)
+  where
+    started : (n : ℕ) → n ≤ length xs → list_any p (take n xs) ≡ some n (λ i. p (get_or xs i d))
+    started zero h = refl
+    started (suc n) h =
+        ap (λ m. list_any p (take m xs)) (sym (add-one n))
+        ∙ list_any_more p xs n d (omega arith)
+        ∙ ap (λ b. b || p (get_or xs n d)) (started n (omega arith))
+
+-- and one over a range is one over the numbers below its end
+pub list_any-below : (p : ℕ → Bool) (n : ℕ) → list_any p (range_with_len 0 n) ≡ some n p
+list_any-below p n =
+    list_any-some p 0 (range_with_len 0 n)
+    ∙ ap (λ m. some m (λ i. p (get_or (range_with_len 0 n) i 0))) (length-range_with_len 0 n)
+    ∙ some_ext (λ i. p (get_or (range_with_len 0 n) i 0)) p n (λ i l. ap p (get_or-range_with_len 0 n i 0 l ∙ zero-add i))
+
+-- the first place of which a test holds, or the list's length, as `position` and `unwrap_or` give it
+pub position-lowest : (p : ℕ → Bool) (d : ℕ) (xs : List ℕ) (n : ℕ) → length xs ≡ n
+    → unwrap_or (cond (ltb (position_or_len p xs) (length xs)) (Some (position_or_len p xs)) None) n
+    ≡ lowest n (λ i. p (get_or xs i d))
+position-lowest p d xs n e =
+    elim (dec_lt (lowest n here) n) [
+      | yes l ↦ rw (first, e, lt-ltb (lowest n here) n l) refl
+      | no g ↦ let le = lowest-le here n in rw (first, e, le-ltb (lowest n here) n (omega arith)) (omega arith)
+    ]
+  where
+    here : ℕ → Bool
+    here i = p (get_or xs i d)
+
+    first : position_or_len p xs ≡ lowest n here
+    first =
+        position_or_len_is p xs (lowest n here) d (omega (arith, lowest-le here n)) (lowest_below here n)
+        (λ l. lowest_holds here n (omega arith))

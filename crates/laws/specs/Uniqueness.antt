@@ -28,6 +28,14 @@ module _ {n : ℕ} (ps : List (ParamKind n)) (r : ResultKind n) (Post : Out n ps
   abbrev pub AllowsOne : Type 0
   AllowsOne = TellsOne (λ κs x. x)
 
+  -- the results alone: of a function that takes values of any type by value, which may hold a loan of their own
+  abbrev pub AnswersOne : Type 0
+  AnswersOne =
+      (κs : Lfts n) (a : Dens κs ps) (x y : (res_t r κs).Denot) (v w : Lasts (ended_of n ps r) κs a)
+      → Post κs a x (at_exit (ended_of n ps r) κs a v)
+      → Post κs a y (at_exit (ended_of n ps r) κs a w)
+      → x ≡ y
+
 -- The same where no `Reads` is made of a contract, as of a function that takes or returns the packed view. It is an assertion of
 -- the logic then: its `clauses`. Where two results are both asserted, that they coincide is a fact.
 module _ (M : Type 1) (T : Ended)

@@ -1,7 +1,15 @@
 -- Two results that a leaf's own contract allows for one input coincide: what is answered, and what is written, is a definition's
 -- value.
-use mathlib.Core.Path.{refl, ◌∙⁻¹◌}
-use Rattle.laws.specs.Uniqueness.{AllowsOne}
+use mathlib.Core.Path.{◌≡◌, refl, sym, ap, ◌∙◌, ◌∙⁻¹◌}
+use mathlib.Core.Bool.{true, false, true≢false}
+use Rattle.std.specs.Prelude.{ℕ, Option, Some, None, MatchOption}
+use Rattle.laws.specs.Refusals.{width_bad}
+use Rattle.leaves.specs.declared.width.Width.{Width}
+use denote.RattleType.{RattleType}
+use mir.Syntax.{Dict}
+use Rattle.std.specs.declared.clone.Clone.{Ghosts}
+use denote.Param.Laws.{Laws, IsCopy}
+use Rattle.laws.specs.Uniqueness.{AllowsOne, TellsOne}
 use Rattle.laws.proofs.Contracts.{◌&◌, skip}
 use Rattle.leaves.proofs.limits.out_of
 use Rattle.leaves.proofs.limits.width_bad
@@ -11,8 +19,11 @@ use Rattle.leaves.proofs.digests.digest_differs
 use Rattle.leaves.proofs.rounding.calculate_query_indicator as indicator
 use Rattle.leaves.proofs.rounding.modulus
 use Rattle.leaves.proofs.rounding.rounded
+use Rattle.leaves.proofs.width.Width.new as width
+use Rattle.leaves.proofs.width.Width.modulus as width_modulus
+use Rattle.leaves.proofs.width.Width.greatest as width_greatest
+use Rattle.leaves.proofs.width.Width.delta as width_delta
 use Rattle.leaves.proofs.words.copy
-use Rattle.leaves.proofs.words.copy_bytes
 use Rattle.leaves.proofs.words.wrapping_mul
 use Rattle.leaves.proofs.words.zero
 
@@ -46,8 +57,33 @@ wrapping_mul_settled κs a x y v w p q = (p ∙⁻¹ q, refl)
 pub zero_settled : AllowsOne zero.Kinds.ps zero.Kinds.r zero.Reads.Post
 zero_settled κs a x y v w p q = (refl, p ∙⁻¹ q & refl)
 
-pub copy_settled : AllowsOne copy.Kinds.ps copy.Kinds.r copy.Reads.Post
-copy_settled κs a x y v w p q = (refl, skip 1 (p ∙⁻¹ q & refl))
+-- of elements of every type at once
+pub copy_settled : (T : RattleType) (t : Laws T) (c : IsCopy T) (g : Ghosts T.Denot) (d : Dict)
+    → AllowsOne (copy.Kinds.ps T t c) (copy.Kinds.r T t c) (copy.Reads.Post T t c g d)
+copy_settled T t c g d κs a x y v w p q = (refl, skip 1 (p ∙⁻¹ q & refl))
 
-pub copy_bytes_settled : AllowsOne copy_bytes.Kinds.ps copy_bytes.Kinds.r copy_bytes.Reads.Post
-copy_bytes_settled κs a x y v w p q = (refl, skip 1 (p ∙⁻¹ q & refl))
+pub width_modulus_settled : AllowsOne width_modulus.Kinds.ps width_modulus.Kinds.r width_modulus.Reads.Post
+width_modulus_settled κs a x y v w p q = (p ∙⁻¹ q, refl)
+
+pub width_greatest_settled : AllowsOne width_greatest.Kinds.ps width_greatest.Kinds.r width_greatest.Reads.Post
+width_greatest_settled κs a x y v w p q = (p ∙⁻¹ q, refl)
+
+pub width_delta_settled : AllowsOne width_delta.Kinds.ps width_delta.Kinds.r width_delta.Reads.Post
+width_delta_settled κs a x y v w p q = (p ∙⁻¹ q, refl)
+
+-- a width is its bits: that they are 4 to 14 is a fact of its type
+abbrev bits_of : Option Width → Option ℕ
+bits_of None = None
+bits_of (Some w) = Some w.bits
+
+same_bits : (b : ℕ) (x y : Option Width)
+    → MatchOption x (width_bad b ≡ true) (λ w. (w.bits ≡ b) × (width_bad b ≡ false))
+    → MatchOption y (width_bad b ≡ true) (λ w. (w.bits ≡ b) × (width_bad b ≡ false))
+    → bits_of x ≡ bits_of y
+same_bits b None None p q = refl
+same_bits b None (Some w) p q = absurd (true≢false (sym p ∙ q.1))
+same_bits b (Some w) None p q = absurd (true≢false (sym q ∙ p.1))
+same_bits b (Some w) (Some v) p q = ap Some (p.0 ∙⁻¹ q.0)
+
+pub width_settled : TellsOne width.Kinds.ps width.Kinds.r width.Reads.Post (λ κs w. bits_of w)
+width_settled κs a x y v w p q = (same_bits a.0 x y p q, refl)

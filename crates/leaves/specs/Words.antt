@@ -7,7 +7,7 @@ abbrev pub zeroed : List ℕ → List ℕ
 zeroed words = replicate (length words) 0
 
 -- what a buffer holds once others were copied into its start: as before, where there is no room for them
-unfoldable pub copied : List ℕ → List ℕ → List ℕ
+unfoldable pub copied : {A : Type 0} → List A → List A → List A
 copied from out = cond (ltb (length out) (length from)) out (laid from out)
 
 abbrev pub times_word : ℕ → ℕ → ℕ

@@ -8,10 +8,8 @@ pub fn digest_differs(x: [u8; 32], y: [u8; 32]) -> bool
     ensures { result ≡ differs x y }
 {
     let mut apart = false;
-    let mut k: usize = 0;
-    while k < 32 {
-        apart = apart | (x[k] != y[k]);
-        k += 1;
+    for (p, q) in x.iter().zip(&y) {
+        apart |= p != q;
     }
     apart
 }

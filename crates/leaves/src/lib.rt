@@ -6,4 +6,5 @@ pub mod digests;
 pub mod limits;
 pub mod positions;
 pub mod rounding;
+pub mod width;
 pub mod words;

@@ -20,10 +20,7 @@ pub const INTERVAL_MOST: usize = 1431655765;
 pub fn out_of(lo: usize, hi: usize, x: usize) -> bool
     ensures { result ≡ outside lo hi x }
 {
-    if x < lo {
-        return true;
-    }
-    hi < x
+    x < lo || hi < x
 }
 
 // 1: is b outside 4..=14?
@@ -37,12 +34,5 @@ pub fn width_bad(b: u32) -> bool
 pub fn any_above(greatest: u32, elements: &[u32]) -> bool
     ensures { result ≡ any_above greatest elements.now }
 {
-    let mut i: usize = 0;
-    while i < elements.len() {
-        if greatest < elements[i] {
-            return true;
-        }
-        i += 1;
-    }
-    false
+    elements.iter().any(|x| greatest < *x)
 }

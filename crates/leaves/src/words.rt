@@ -1,4 +1,4 @@
-// Words: lent ones wiped or copied, and the product of two; bytes copied.
+// Words and bytes: lent ones wiped or copied, and the product of two words.
 ghost use Rattle.std.specs.Prelude.{◌≡◌};
 ghost use Rattle.leaves.specs.Words.{zeroed, copied, times_word};
 
@@ -6,38 +6,15 @@ ghost use Rattle.leaves.specs.Words.{zeroed, copied, times_word};
 pub fn zero(words: &mut [u32])
     ensures { words.new ≡ zeroed words.old }
 {
-    let mut j: usize = 0;
-    while j < words.len() {
-        words[j] = 0;
-        j += 1;
-    }
+    words.fill(0);
 }
 
 // Writes `from` into the start of `out`. Where it is longer than that, `out` stays as it is.
-pub fn copy(from: &[u32], out: &mut [u32])
+pub fn copy<T: Copy>(from: &[T], out: &mut [T])
     ensures { out.new ≡ copied from.now out.old }
 {
-    if out.len() < from.len() {
-        return;
-    }
-    let mut i: usize = 0;
-    while i < from.len() {
-        out[i] = from[i];
-        i += 1;
-    }
-}
-
-// The same of bytes.
-pub fn copy_bytes(bytes: &[u8], out: &mut [u8])
-    ensures { out.new ≡ copied bytes.now out.old }
-{
-    if out.len() < bytes.len() {
-        return;
-    }
-    let mut k: usize = 0;
-    while k < bytes.len() {
-        out[k] = bytes[k];
-        k += 1;
+    if from.len() <= out.len() {
+        out[..from.len()].copy_from_slice(from);
     }
 }
 
@@ -45,6 +22,5 @@ pub fn copy_bytes(bytes: &[u8], out: &mut [u8])
 pub fn wrapping_mul(x: u32, y: u32) -> u32
     ensures { result ≡ times_word x y }
 {
-    let wide = x as u64 * y as u64;
-    (wide % 4294967296) as u32
+    x.wrapping_mul(y)
 }

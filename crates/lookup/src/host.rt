@@ -1,55 +1,45 @@
 // The host, which never learns whose row is asked for. It reads queries and writes responses: lines like the terminal's, the two
 // kinds the other way round.
-use super::{print, store};
-use arith::packing::Packing;
+use super::fault::{Fault, Refused};
+use super::store;
 use frames::lines;
-use frames::lines::Reading;
 use std::io;
+use std::io::Write;
 use view::packed;
 
-// The product of a query with the store, as a view of its words: b 10, and 33 rows, each a column of D.
-fn multiply(query: &[u32], words: &[u32], out: &mut [u32]) -> Packing {
-    let matrix = packed::view(10, 33, 7, words);
-    packed::multiply(query, matrix, out)
-}
+pub(crate) type Response = [u8; 291];
 
-// The elements of the store, through the same view.
-fn unpack(words: &[u32], out: &mut [u32]) -> Packing {
-    let matrix = packed::view(10, 33, 7, words);
-    packed::unpack(matrix, out)
-}
-
-// One column of D, so that a reader sees what the host does.
-pub(crate) fn show(rt: &impl Print) -> io::Result<()> {
+// One column of D, so that a reader sees what the host does. The store is read as a view of its words: b 10, and 33 rows, each a
+// column of D.
+pub(crate) fn show(rt: &impl Print) -> Result<(), Fault> {
+    let words = store::packed()?;
     let mut elements = [0; 231];
-    unpack(&store::packed(), &mut elements);
-    let start: usize = 0;
-    let end: usize = 7;
-    print::text(
-        rt,
-        b"The host sees numbers without names, in its first column of 33:",
-    )?;
-    print::list(rt, &elements[start..end])?;
-    print::text(rt, b"\n")
+    packed::unpack(packed::view(10, 33, 7, &words), &mut elements).map_err(Refused::because)?;
+    print!(rt; "The host sees numbers without names, in its first column of 33:")?;
+    for x in &elements[..7] {
+        print!(rt; " {x}")?;
+    }
+    println!(rt; "")?;
+    Ok(())
 }
 
-// The response to these words, under the query's ticket.
-fn respond(ticket: u32, query: &[u32]) -> [u8; 291] {
-    let mut words = [0; 33];
-    multiply(query, &store::packed(), &mut words);
-    let mut line = [0; 291];
-    lines::write_line(2, ticket, &words, &mut line);
-    line
-}
-
-// What is no query line is answered with zeros, which no terminal takes for a line.
-pub(crate) fn answer(rt: &impl Print, query: [u8; 83]) -> io::Result<[u8; 291]> {
+// The response to a query line: the product of its words with the store, under its ticket.
+fn respond(query: &[u8]) -> Result<Response, Refused> {
     let mut words = [0; 7];
-    let Reading::Words(ticket, _) = lines::read_line(1, &query, &mut words) else {
-        return Ok([0; 291]);
-    };
-    let response = respond(ticket, &words);
-    print::text(rt, b"  host      ")?;
-    print::text(rt, &response)?;
+    let (ticket, _) = lines::read_line(1, query, &mut words).map_err(Refused::because)?;
+    let store = store::packed()?;
+    let mut product = [0; 33];
+    packed::multiply(&words, packed::view(10, 33, 7, &store), &mut product).map_err(
+        Refused::because,
+    )?;
+    let mut line = [0; 291];
+    lines::write_line(2, ticket, &product, &mut line).map_err(Refused::because)?;
+    Ok(line)
+}
+
+pub(crate) fn answer(rt: &impl Print, query: &[u8]) -> Result<Response, Fault> {
+    let response = respond(query)?;
+    print!(rt; "  host      ")?;
+    io::writer(rt).write_all(&response)?;
     Ok(response)
 }

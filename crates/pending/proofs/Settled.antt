@@ -1,19 +1,34 @@
 -- Two results that a contract allows for one input coincide: the answer and the table alike. It is said of the contracts
 -- themselves, and p and q are what their clauses say of the two results.
-use mathlib.Core.Path.{◌≡◌, refl, ◌∙⁻¹◌}
+use Rattle.std.proofs.Common.{◌≡◌, Result, Ok, Err, IfOk, refl, ap, arith}
+use mathlib.Core.Path.{◌∙⁻¹◌}
 use Rattle.laws.specs.Uniqueness.{AllowsOne}
-use Rattle.client_answers.proofs.Apart.{same_making}
+use Rattle.client_answers.specs.declared.table.MakingRefusal.{MakingRefusal}
+use Rattle.client_answers.specs.declared.table.MakingRefusal.TheVariants as making
+use Rattle.client_answers.specs.Table.{making_number}
+use Rattle.pending.specs.declared.table.Table.{Table}
 use Rattle.pending.proofs.table.fresh as fresh
-use Rattle.pending.proofs.table.is_malformed as is-malformed
-use Rattle.pending.proofs.table.slot_of as slot_of
-use Rattle.pending.proofs.table.is_pending as is-pending
-use Rattle.pending.proofs.table.digest_pending as digest-pending
-use Rattle.pending.proofs.table.differs_at as differs_at
+use Rattle.pending.proofs.table.Table.is_malformed as is-malformed
+use Rattle.pending.proofs.table.Table.slot_of as slot_of
+use Rattle.pending.proofs.table.Table.is_pending as is-pending
+use Rattle.pending.proofs.table.Table.digest_pending as digest-pending
+use Rattle.pending.proofs.table.Table.differs_at as differs_at
+
+-- answers of one number, and of one table where they bring one, are one
+same_making : (x y : Result Table MakingRefusal) (t : Table) → making_number x ≡ making_number y → IfOk x (λ u. u ≡ t)
+    → IfOk y (λ u. u ≡ t) → x ≡ y
+same_making (Ok u) (Ok v) t e p q = ap Ok (p ∙⁻¹ q)
+same_making (Ok u) (Err making.Width) t e p q = absurd (omega arith)
+same_making (Ok u) (Err making.Shape) t e p q = absurd (omega arith)
+same_making (Err making.Width) (Ok v) t e p q = absurd (omega arith)
+same_making (Err making.Shape) (Ok v) t e p q = absurd (omega arith)
+same_making (Err making.Width) (Err making.Width) t e p q = refl
+same_making (Err making.Width) (Err making.Shape) t e p q = absurd (omega arith)
+same_making (Err making.Shape) (Err making.Width) t e p q = absurd (omega arith)
+same_making (Err making.Shape) (Err making.Shape) t e p q = refl
 
 pub fresh_settled : AllowsOne fresh.Kinds.ps fresh.Kinds.r fresh.Reads.Post
-fresh_settled κs a x y v w p q =
-    let same : x.answer ≡ y.answer = same_making (p.0 ∙⁻¹ q.0) in
-    (λ i. record { answer = same i; table = (p.1 ∙⁻¹ q.1) i }, refl)
+fresh_settled κs a x y v w p q = (same_making x y _ (p.0 ∙⁻¹ q.0) p.1 q.1, refl)
 
 pub is_malformed_settled : AllowsOne is-malformed.Kinds.ps is-malformed.Kinds.r is-malformed.Reads.Post
 is_malformed_settled κs a x y v w p q = (p ∙⁻¹ q, refl)

@@ -1,4 +1,3 @@
 -- Laws of the matrix bytes.
 pub mod Words
-pub mod Answers
 pub mod RoundTrip

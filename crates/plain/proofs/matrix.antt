@@ -2,4 +2,3 @@
 pub mod Shapes
 pub mod Cells
 pub mod Associates
-pub mod Answers

@@ -1,95 +1,108 @@
 // Document 01, "Packed product": the plain product and the transpose, which are the ordinary ones, modulo 2^32.
-ghost use Rattle.std.specs.Prelude.{◌≡◌, ◌*◌, ◌%◌, ◌^◌, ◌<◌, ◌≤◌, ◌||◌, [], ◌∷◌, length, nat_lt, slice_index};
-ghost use Rattle.laws.specs.Refusals.{first, ◌⇒◌};
-ghost use Rattle.laws.specs.Lists.{build, laid};
+ghost use Rattle.std.specs.Prelude.{◌≡◌, ◌*◌, ◌%◌, ◌^◌, ◌<◌, ◌≤◌, ◌||◌, true, false, length, slice_index, MatchResult};
+ghost use Rattle.laws.specs.Refusals.{outside};
+ghost use Rattle.laws.specs.Lists.{build, row, laid};
 ghost use Rattle.laws.specs.Sums.{sum};
 ghost use Rattle.plain.specs.Matrix.{cell, matrix_bad, times, transposed, times_number, times_after, transpose_number, transpose_after};
-ghost use Rattle.answers.specs.Matrix.{fitting_number};
+ghost use Rattle.answers.specs.Matrix.{fitting_number, fitting_refusal};
 
-pub use answers::matrix::Fitting;
-use leaves::{limits, words};
+pub use answers::matrix::FittingRefusal;
+use leaves::limits;
 
-// 2, the one refusal of product, transpose and matrix-bytes writer.
-pub(crate) fn refusal(shape: bool) -> Fitting
-    ensures { fitting_number result ≡ first (shape ⇒ 2 ∷ []) }
+// Is a dimension outside 1 to 4,096?
+pub(crate) fn sides_bad(rows: usize, columns: usize) -> bool
+    ensures { result ≡ (outside 1 4096 rows || outside 1 4096 columns) }
 {
-    if shape {
-        return Fitting::Shape;
-    }
-    Fitting::Done
+    limits::out_of(1, limits::ROWS_MOST, rows) || limits::out_of(1, limits::ROWS_MOST, columns)
 }
 
-// 2: a matrix with each dimension 1 to 4,096, lent as so many words.
-pub(crate) fn matrix_bad(rows: usize, columns: usize, lent: usize) -> bool
-    ensures { result ≡ matrix_bad rows columns lent }
-{
-    if limits::out_of(1, limits::ROWS_MOST, rows) {
-        return true;
-    }
-    if limits::out_of(1, limits::ROWS_MOST, columns) {
-        return true;
-    }
-    lent != rows * columns
+// A matrix with each dimension 1 to 4,096: its words, row after row.
+#[derive(Clone, Copy)]
+pub(crate) struct Matrix<'a> {
+    pub(crate) rows: usize,
+    pub(crate) columns: usize,
+    pub(crate) words: &'a [u32],
+    ghost rows_most: { rows ≤ 4096 },
+    ghost columns_most: { columns ≤ 4096 },
+    ghost whole: { length words.now ≡ rows * columns },
 }
 
-// A row of the left matrix times column j of the right one, which has c columns.
-fn cell_sum(c: usize, row: &[u32], right: &[u32], j: usize) -> u32
-    requires { (j < c) × (length right.now ≡ length row.now * c) }
-    ensures { result ≡ sum (length row.now) (λ t. slice_index row.now t * cell c right.now t j) % 2 ^ 32 }
+impl<'a> Matrix<'a> {
+    // 2, where a dimension is outside its limit or the words are not as many as the dimensions give.
+    #[tactic(auto, unfolding(crate::specs::Matrix::matrix_bad))]
+    pub(crate) fn new(
+        rows: usize,
+        columns: usize,
+        words: &'a [u32],
+    ) -> Result<Matrix<'a>, FittingRefusal>
+        ensures { MatchResult result
+            (λ x. (x.rows ≡ rows) × (x.columns ≡ columns) × (x.words.now ≡ words.now) × (matrix_bad rows columns (length words.now) ≡ false))
+            (λ reason. (fitting_refusal reason ≡ 2) × (matrix_bad rows columns (length words.now) ≡ true)) }
+    {
+        if sides_bad(rows, columns) || words.len() != rows * columns {
+            return Err(FittingRefusal::Shape);
+        }
+        Ok(Matrix {
+            rows,
+            columns,
+            words,
+        })
+    }
+
+    // The word in row i and column j.
+    fn at(&self, i: usize, j: usize) -> u32
+        requires { (i < self.now.rows) × (j < self.now.columns) }
+        ensures { result ≡ cell self.now.columns self.now.words.now i j }
+    {
+        self.words[i * self.columns + j]
+    }
+
+    // Row i.
+    fn row(&self, i: usize) -> &'a [u32]
+        requires { i < self.now.rows }
+        ensures { result.now ≡ row self.now.columns self.now.words.now i }
+    {
+        let from = i * self.columns;
+        &self.words[from..from + self.columns]
+    }
+}
+
+// A row of the left matrix times column j of the right one.
+fn cell_sum(row: &[u32], right: &Matrix, j: usize) -> u32
+    requires { (length row.now ≡ right.now.rows) × (j < right.now.columns) }
+    ensures { result ≡ sum right.now.rows (λ t. slice_index row.now t * cell right.now.columns right.now.words.now t j) % 2 ^ 32 }
 {
     let mut acc: u32 = 0;
-    let mut t: usize = 0;
-    while t < row.len() {
-        let product = words::wrapping_mul(row[t], right[t * c + j]);
-        acc = std::num::wrapping_add_u32(acc, product);
-        t += 1;
+    for (t, x) in row.iter().enumerate() {
+        acc = acc.wrapping_add(x.wrapping_mul(right.at(t, j)));
     }
     acc
 }
 
 // One row of the product.
-fn row_times(row: &[u32], right: &[u32], out: &mut [u32])
-    requires { length right.now ≡ length row.now * length out.old }
-    ensures { out.new ≡ build (length out.old) (λ j. sum (length row.now) (λ t. slice_index row.now t * cell (length out.old) right.now t j) % 2 ^ 32) }
+fn row_times(row: &[u32], right: &Matrix, out: &mut [u32])
+    requires { (length row.now ≡ right.now.rows) × (length out.old ≡ right.now.columns) }
+    ensures { out.new ≡ build right.now.columns (λ j. sum right.now.rows (λ t. slice_index row.now t * cell right.now.columns right.now.words.now t j) % 2 ^ 32) }
 {
-    let c = out.len();
-    let mut j: usize = 0;
-    while j < out.len() {
-        out[j] = cell_sum(c, row, right, j);
-        j += 1;
+    for (j, x) in out.iter_mut().enumerate() {
+        *x = cell_sum(row, right, j);
     }
 }
 
-// Row after row, each from its place in the left matrix to its place in the output.
-fn rows_times(r: usize, m: usize, c: usize, left: &[u32], right: &[u32], out: &mut [u32])
-    requires { (length left.now ≡ r * m) × (length right.now ≡ m * c) × (r * c ≤ length out.old) }
-    ensures { out.new ≡ laid (times r m c left.now right.now) out.old }
+// Row after row, each to its place in the output (by places, as in `bytes::put_words`).
+fn rows_times(left: &Matrix, right: &Matrix, out: &mut [u32])
+    requires { (left.now.columns ≡ right.now.rows) × (left.now.rows * right.now.columns ≤ length out.old) }
+    ensures { out.new ≡ laid (times left.now.rows left.now.columns right.now.columns left.now.words.now right.now.words.now) out.old }
 {
-    let mut i: usize = 0;
-    while i < r {
-        let from = i * m;
-        let from_end = from + m;
-        let to = i * c;
-        let to_end = to + c;
-        row_times(&left[from..from_end], right, &mut out[to..to_end]);
-        i += 1;
+    for i in 0..left.rows {
+        let to = i * right.columns;
+        row_times(left.row(i), right, &mut out[to..to + right.columns]);
     }
 }
 
-// 2: is a factor's shape bad, or the output too short for the product?
-fn factors_bad(r: usize, m: usize, c: usize, left: usize, right: usize, room: usize) -> bool
-    ensures { result ≡ (matrix_bad r m left || matrix_bad m c right || nat_lt room (r * c)) }
-{
-    if matrix_bad(r, m, left) {
-        return true;
-    }
-    if matrix_bad(m, c, right) {
-        return true;
-    }
-    room < r * c
-}
-
-// The product of a matrix of r times m words and one of m times c, into the start of `out`.
+// The product of a matrix of r times m words and one of m times c, into the start of `out`. Words and dimensions come apart, as
+// the C interface lends them.
+#[tactic(auto, unfolding(crate::specs::Matrix::times_number))]
 pub fn plain_product(
     r: usize,
     m: usize,
@@ -97,63 +110,50 @@ pub fn plain_product(
     left: &[u32],
     right: &[u32],
     out: &mut [u32],
-) -> Fitting
+) -> Result<(), FittingRefusal>
     ensures number { fitting_number result ≡ times_number r m c (length left.now) (length right.now) (length out.old) }
     ensures out_after { out.new ≡ times_after r m c left.now right.now out.old }
 {
-    let answer = refusal(factors_bad(r, m, c, left.len(), right.len(), out.len()));
-    let Fitting::Done = answer else {
-        return answer;
-    };
-    rows_times(r, m, c, left, right, out);
-    Fitting::Done
+    let left = Matrix::new(r, m, left)?;
+    let right = Matrix::new(m, c, right)?;
+    if out.len() < r * c {
+        return Err(FittingRefusal::Shape);
+    }
+    rows_times(&left, &right, out);
+    Ok(())
 }
 
-// Column j of a matrix of c columns.
-fn column(c: usize, words: &[u32], j: usize, out: &mut [u32])
-    requires { (j < c) × (length words.now ≡ length out.old * c) }
-    ensures { out.new ≡ build (length out.old) (λ i. cell c words.now i j) }
+// Column j of a matrix.
+fn column(matrix: &Matrix, j: usize, out: &mut [u32])
+    requires { (j < matrix.now.columns) × (length out.old ≡ matrix.now.rows) }
+    ensures { out.new ≡ build matrix.now.rows (λ i. cell matrix.now.columns matrix.now.words.now i j) }
 {
-    let mut i: usize = 0;
-    while i < out.len() {
-        out[i] = words[i * c + j];
-        i += 1;
+    for (i, x) in out.iter_mut().enumerate() {
+        *x = matrix.at(i, j);
     }
 }
 
-// Column after column, each to its place as a row.
-fn columns_as_rows(r: usize, c: usize, words: &[u32], out: &mut [u32])
-    requires { (length words.now ≡ r * c) × (r * c ≤ length out.old) }
-    ensures { out.new ≡ laid (transposed r c words.now) out.old }
+// Column after column, each to its place as a row (by places, as in `bytes::put_words`).
+fn columns_as_rows(matrix: &Matrix, out: &mut [u32])
+    requires { matrix.now.rows * matrix.now.columns ≤ length out.old }
+    ensures { out.new ≡ laid (transposed matrix.now.rows matrix.now.columns matrix.now.words.now) out.old }
 {
-    let mut j: usize = 0;
-    while j < c {
-        let to = j * r;
-        let to_end = to + r;
-        column(c, words, j, &mut out[to..to_end]);
-        j += 1;
+    for j in 0..matrix.columns {
+        let to = j * matrix.rows;
+        column(matrix, j, &mut out[to..to + matrix.rows]);
     }
-}
-
-// 2: is the matrix's shape bad, or the room less than the matrix takes?
-pub(crate) fn lent_bad(r: usize, c: usize, lent: usize, room: usize) -> bool
-    ensures { result ≡ (matrix_bad r c lent || nat_lt room (r * c)) }
-{
-    if matrix_bad(r, c, lent) {
-        return true;
-    }
-    room < r * c
 }
 
 // A matrix of r times c words, its rows made columns, into the start of `out`.
-pub fn transpose(r: usize, c: usize, words: &[u32], out: &mut [u32]) -> Fitting
+#[tactic(auto, unfolding(crate::specs::Matrix::transpose_number))]
+pub fn transpose(r: usize, c: usize, words: &[u32], out: &mut [u32]) -> Result<(), FittingRefusal>
     ensures number { fitting_number result ≡ transpose_number r c (length words.now) (length out.old) }
     ensures out_after { out.new ≡ transpose_after r c words.now out.old }
 {
-    let answer = refusal(lent_bad(r, c, words.len(), out.len()));
-    let Fitting::Done = answer else {
-        return answer;
-    };
-    columns_as_rows(r, c, words, out);
-    Fitting::Done
+    let matrix = Matrix::new(r, c, words)?;
+    if out.len() < r * c {
+        return Err(FittingRefusal::Shape);
+    }
+    columns_as_rows(&matrix, out);
+    Ok(())
 }

@@ -3,31 +3,32 @@ ghost use Rattle.std.specs.Prelude.{◌≡◌, length};
 ghost use Rattle.replies.specs.Discard.{discard_number, discard_table, discard_slab};
 ghost use Rattle.client_answers.specs.Discard.{discarding_number};
 
-pub use client_answers::discard::Discarding;
-use pending::table;
-use pending::table::Table;
+pub use client_answers::discard::DiscardingRefusal;
+use pending::table::{SLOTS, Table};
 use tickets::slots;
 
+// The table comes back from a refusal too.
 #[derive(Clone, Copy)]
 pub struct Discarded {
-    pub answer: Discarding,
+    pub answer: Result<(), DiscardingRefusal>,
     pub table: Table,
 }
 
 // 18, 2, 10: the order that document 01 gives.
-fn refusal(table: Table, slab: usize, ticket: u32) -> Discarding
-    ensures { discarding_number result ≡ discard_number table slab ticket }
+#[tactic(auto, using(pending::proofs::table::Formed::few_columns), unfolding(crate::specs::Discard::discard_number))]
+fn check(table: &Table, slab: usize, ticket: u32) -> Result<(), DiscardingRefusal>
+    ensures { discarding_number result ≡ discard_number table.now slab ticket }
 {
-    if table::is_malformed(table) {
-        return Discarding::Table;
+    if table.is_malformed() {
+        return Err(DiscardingRefusal::Table);
     }
-    if slab != table::SLOTS * table.columns {
-        return Discarding::Shape;
+    if slab != SLOTS * table.columns {
+        return Err(DiscardingRefusal::Shape);
     }
-    if !table::is_pending(table, ticket) {
-        return Discarding::NotPending;
+    if !table.is_pending(ticket) {
+        return Err(DiscardingRefusal::NotPending);
     }
-    Discarding::Done
+    Ok(())
 }
 
 // Frees the slot of a pending ticket, and wipes its digest and its secret words.
@@ -36,15 +37,10 @@ pub fn discard_query(table: Table, slab: &mut [u32], ticket: u32) -> Discarded
     ensures table_value { result.table ≡ discard_table table slab.old ticket }
     ensures slab_after { slab.new ≡ discard_slab table slab.old ticket }
 {
-    let answer = refusal(table, slab.len(), ticket);
-    let Discarding::Done = answer else {
-        return Discarded {
-            answer: answer,
-            table: table,
-        };
+    let answer = check(&table, slab.len(), ticket);
+    let table = match answer {
+        Ok(()) => slots::close(table, slab, ticket),
+        Err(_) => table,
     };
-    Discarded {
-        answer: Discarding::Done,
-        table: slots::close(table, slab, ticket),
-    }
+    Discarded { answer, table }
 }

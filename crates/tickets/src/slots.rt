@@ -4,88 +4,71 @@ ghost use Rattle.std.specs.Prelude.{◌≡◌, ◌*◌, ◌<◌, length};
 ghost use Rattle.laws.specs.Lists.{splice};
 ghost use Rattle.pending.specs.Table.{taken, takable, take_after, closed, wiped, closable, close_after, wipe_after};
 
-use leaves::{limits, words};
-use pending::table;
-use pending::table::{DIGEST_BYTES, SLOTS, Table};
+use leaves::limits;
+use pending::table::{DIGEST_BYTES, NUMBERS_END, SLOTS, Table};
 
 // The last number that a ticket may have.
-const LAST_NUMBER: usize = table::NUMBERS_END as usize - 1;
+const LAST_NUMBER: usize = NUMBERS_END as usize - 1;
 
 // Stores a digest in slot s.
 fn put_digest(digests: &mut [u8; DIGEST_BYTES], s: usize, digest: [u8; 32])
     requires { (s < 64) × (length digests.old ≡ 2048) }
     ensures { digests.new ≡ splice (s * 32) digest digests.old }
 {
-    let start = s * 32;
-    let mut k: usize = 0;
-    while k < 32 {
-        digests[start + k] = digest[k];
-        k += 1;
-    }
+    digests[s * 32..s * 32 + 32].copy_from_slice(&digest);
 }
 
 // The table with the next number and this digest in slot s.
-fn take_slot(table: Table, s: usize, digest: [u8; 32]) -> Table
+fn take_slot(mut table: Table, s: usize, digest: [u8; 32]) -> Table
     requires { (s < 64) × (table.next < 4294967295) }
     ensures { result ≡ taken table s digest }
 {
-    let mut t = table;
-    let number = t.next;
-    t.numbers[s] = number;
-    t.next = number + 1;
-    put_digest(&mut t.digests, s, digest);
-    t
+    table.numbers[s] = table.next;
+    table.next += 1;
+    put_digest(&mut table.digests, s, digest);
+    table
 }
 
 // Is the digest not pending, a slot free, and next a number that a ticket may have?
-fn can_take(table: Table, digest: [u8; 32]) -> bool
-    ensures { result ≡ takable table digest }
+#[tactic(auto, using(pending::proofs::table::Slots::full_test), unfolding(pending::specs::Table::takable))]
+fn can_take(table: &Table, digest: [u8; 32]) -> bool
+    ensures { result ≡ takable table.now digest }
 {
-    if table::digest_pending(table, digest) {
-        return false;
-    }
-    if table::slot_of(table, 0) == SLOTS {
-        return false;
-    }
-    !limits::out_of(1, LAST_NUMBER, table.next as usize)
+    !table.digest_pending(digest)
+        && table.slot_of(0) != SLOTS
+        && !limits::out_of(1, LAST_NUMBER, table.next as usize)
 }
 
 // The table with the next number and this digest in its lowest free slot. Where 7, 8 or 9 holds it stays as it is.
 pub fn take(table: Table, digest: [u8; 32]) -> Table
     ensures { result ≡ take_after table digest }
 {
-    if !can_take(table, digest) {
-        return table;
+    if can_take(&table, digest) {
+        take_slot(table, table.slot_of(0), digest)
+    } else {
+        table
     }
-    take_slot(table, table::slot_of(table, 0), digest)
 }
 
 // Frees slot s, and wipes its digest and its secret words.
-fn close_slot(table: Table, slab: &mut [u32], s: usize) -> Table
+fn close_slot(mut table: Table, slab: &mut [u32], s: usize) -> Table
     requires { (s < 64) × (length slab.old ≡ 64 * table.columns) }
     ensures value { result ≡ closed table s }
     ensures slab_after { slab.new ≡ wiped table.columns s slab.old }
 {
     let start = s * table.columns;
-    let end = start + table.columns;
-    words::zero(&mut slab[start..end]);
-    let mut t = table;
-    t.numbers[s] = 0;
-    put_digest(&mut t.digests, s, [0u8; 32]);
-    t
+    slab[start..start + table.columns].fill(0);
+    table.numbers[s] = 0;
+    put_digest(&mut table.digests, s, [0; 32]);
+    table
 }
 
 // Is the ticket pending, and the slab of this length the table's? 64·C may be more than a `usize` holds, so it is not taken.
-fn can_close(table: Table, slab: usize, ticket: u32) -> bool
-    ensures { result ≡ closable table slab ticket }
+#[tactic(auto, unfolding(pending::specs::Table::closable))]
+fn can_close(table: &Table, slab: usize, ticket: u32) -> bool
+    ensures { result ≡ closable table.now slab ticket }
 {
-    if !table::is_pending(table, ticket) {
-        return false;
-    }
-    if slab % SLOTS != 0 {
-        return false;
-    }
-    slab / SLOTS == table.columns
+    table.is_pending(ticket) && slab % SLOTS == 0 && slab / SLOTS == table.columns
 }
 
 // Frees the slot of a pending ticket (the lowest, should two have its number), and wipes its digest and its secret words.
@@ -94,8 +77,9 @@ pub fn close(table: Table, slab: &mut [u32], ticket: u32) -> Table
     ensures value { result ≡ close_after table (length slab.old) ticket }
     ensures slab_after { slab.new ≡ wipe_after table slab.old ticket }
 {
-    if !can_close(table, slab.len(), ticket) {
-        return table;
+    if can_close(&table, slab.len(), ticket) {
+        close_slot(table, slab, table.slot_of(ticket))
+    } else {
+        table
     }
-    close_slot(table, slab, table::slot_of(table, ticket))
 }

@@ -6,7 +6,7 @@ ghost use Rattle.answers.specs.Packing.{packing_number};
 ghost use Rattle.arith.specs.Product.{factors, product_number, product_after};
 ghost use Rattle.view.specs.Packed.{viewed, factors_with};
 
-use arith::packing::Packing;
+use arith::packing::PackingRefusal;
 use arith::{packing, product};
 
 #[derive(Clone, Copy)]
@@ -30,7 +30,11 @@ pub fn view<'a>(b: u32, rows: usize, columns: usize, words: &'a [u32]) -> Packed
 }
 
 // The product: the view taken apart.
-pub fn multiply<'a>(vector: &[u32], matrix: PackedMatrix<'a>, out: &mut [u32]) -> Packing
+pub fn multiply<'a>(
+    vector: &[u32],
+    matrix: PackedMatrix<'a>,
+    out: &mut [u32],
+) -> Result<(), PackingRefusal>
     ensures number { packing_number result ≡ product_number (factors_with vector.now matrix.entry out.old) }
     ensures out_after { out.new ≡ product_after (factors_with vector.now matrix.entry out.old) }
 {
@@ -52,7 +56,7 @@ pub fn times(
     columns: usize,
     words: &[u32],
     out: &mut [u32],
-) -> Packing
+) -> Result<(), PackingRefusal>
     ensures number { packing_number result ≡ product_number (factors b rows columns vector.now words.now out.old) }
     ensures out_after { out.new ≡ product_after (factors b rows columns vector.now words.now out.old) }
 {
@@ -61,7 +65,7 @@ pub fn times(
 }
 
 // The unpacked elements, row after row.
-pub fn unpack<'a>(matrix: PackedMatrix<'a>, out: &mut [u32]) -> Packing
+pub fn unpack<'a>(matrix: PackedMatrix<'a>, out: &mut [u32]) -> Result<(), PackingRefusal>
     ensures number { packing_number result ≡ decompress_number matrix.entry.b matrix.entry.rows matrix.entry.columns (length matrix.entry.words.now) (length out.old) }
     ensures out_after { out.new ≡ decompress_after matrix.entry.b matrix.entry.rows matrix.entry.columns matrix.entry.words.now out.old }
 {

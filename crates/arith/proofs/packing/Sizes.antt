@@ -1,13 +1,15 @@
 -- Factor, slot width, and the words of a row.
-use Rattle.std.proofs.Common.{◌≡◌, ℕ, suc, ◌+◌, ◌-◌, ◌*◌, ◌/◌, ◌%◌, ◌<◌, ◌≤◌, Bool, true, false, cond, leb, List, length, refl, ap, ◌∙◌, le_trans, mul-le-mul_right, mod-lt, div-lt_iff_lt-mul, mul-le-mul_left, div-add-mod', div-mul-le_self, arith, leb-true}
-use native.Mathlib.Nat.{lt-div-mul-add, add-mul-div_right, div-eq_of_lt}
+use Rattle.std.proofs.Common.{◌≡◌, ℕ, suc, ◌+◌, ◌-◌, ◌*◌, ◌/◌, ◌%◌, ◌<◌, ◌≤◌, Bool, true, false, cond, leb, List, length, refl, sym, min, le_trans, mul-le-mul_right, div-lt_iff_lt-mul, mul-le-mul_left, div-mul-le_self, arith, leb-true}
+use native.Mathlib.Nat.{lt-div-mul-add, div-eq_of_lt-le}
+use Rattle.std.proofs.lemmas.Grind.{div_ceil_times}
 use Rattle.laws.specs.Lists.{part}
 use Rattle.laws.proofs.Lists.{room, length-build}
-use Rattle.arith.specs.Packing.{factor_of, slot_bits, words_of, Slotted, word_of, pack_row, element_of, unpack_row}
+use Rattle.arith.specs.Packing.{factor_of, slot_bits, words_of, word_of, pack_row, element_of, unpack_row}
 
 -- The three kinds of word, over the two tests that tell them apart.
 kinds : (s t : Bool)
-    → let f : ℕ = cond s 4 (cond t 3 2) in (2 ≤ f) × (f ≤ 4) × (f * cond s 8 (cond t 10 16) ≤ 32)
+    → let f : ℕ = cond s 4 (cond t 3 2) in
+    let w : ℕ = cond s 8 (cond t 10 16) in (2 ≤ f) × (f * w ≤ 32) × (0 < w)
 kinds true t = (omega arith, omega arith, omega arith)
 kinds false true = (omega arith, omega arith, omega arith)
 kinds false false = (omega arith, omega arith, omega arith)
@@ -16,13 +18,13 @@ pub factor_lo : (b : ℕ) → 2 ≤ factor_of b
 unfolding factor_of
 factor_lo b = (kinds (leb b 8) (leb b 10)).0
 
-pub factor_hi : (b : ℕ) → factor_of b ≤ 4
-unfolding factor_of
-factor_hi b = (kinds (leb b 8) (leb b 10)).1
-
 fit : (b : ℕ) → factor_of b * slot_bits b ≤ 32
 unfolding factor_of slot_bits
-fit b = (kinds (leb b 8) (leb b 10)).2
+fit b = (kinds (leb b 8) (leb b 10)).1
+
+slot_pos : (b : ℕ) → 0 < slot_bits b
+unfolding slot_bits
+slot_pos b = (kinds (leb b 8) (leb b 10)).2
 
 -- a slot holds an element
 pub wide : (b : ℕ) → b ≤ 14 → b ≤ slot_bits b
@@ -34,14 +36,15 @@ wide b h = by (leb b 8) (leb b 10) refl refl
     by false true p q = leb-true b 10 q
     by false false p q = omega arith
 
--- as many slots as a word has lie inside it
-pub slotted : (b n : ℕ) → 4 ≤ b → b ≤ 14 → n ≤ factor_of b → Slotted b (slot_bits b) n
-slotted b n l h k = record {
-  low = l;
-  high = h;
-  wide = wide b h;
-  fits = le_trans (mul-le-mul_right (slot_bits b) k) (fit b);
-}
+-- Slot s of n, no more than a word has, lies inside the word.
+module _ (b : ℕ) {w n : ℕ} (hw : w ≡ slot_bits b) (hn : n ≤ factor_of b) where
+  pub in_word : {shift s : ℕ} → shift ≡ s * w → s < n → shift + w ≤ 32
+  in_word {shift} {s} hs h =
+      let all : n * w ≤ 32 = rw hw (le_trans (mul-le-mul_right (slot_bits b) hn) (fit b)) in
+      omega (arith, room s n w h)
+
+  pub shift_lt : {shift s : ℕ} → shift ≡ s * w → s < n → shift < 32
+  shift_lt hs h = omega (arith, in_word hs h, slot_pos b)
 
 -- Word q of a row of k elements starts inside the row.
 pub starts : (b k q : ℕ) → q < words_of b k → q * factor_of b < k
@@ -66,29 +69,14 @@ words_le b k =
     let y : (k + (factor_of b - 1)) / factor_of b < suc k = (div-lt_iff_lt-mul {k = factor_of b} {x = k + (factor_of b - 1)} {y = suc k} p).1 x in
     omega arith
 
--- k / factor rounded up, by the remainder
-module _ (b k : ℕ) where
-  rounded : words_of b k ≡ (k % factor_of b + (factor_of b - 1)) / factor_of b + k / factor_of b
-  unfolding words_of
-  rounded =
-      let p : 0 < factor_of b = omega (arith, factor_lo b) in
-      let e : k + (factor_of b - 1) ≡ k % factor_of b + (factor_of b - 1) + k / factor_of b * factor_of b = omega (arith, div-add-mod' k (factor_of b)) in
-      ap (λ (x : ℕ). x / factor_of b) e ∙ add-mul-div_right (k % factor_of b + (factor_of b - 1)) (k / factor_of b) p
-
-  pub words_even : k % factor_of b ≡ 0 → k / factor_of b ≡ words_of b k
-  words_even h =
-      let d : (k % factor_of b + (factor_of b - 1)) / factor_of b ≡ 0 = div-eq_of_lt (omega (arith, factor_lo b)) in
-      omega (arith, rounded)
-
-  pub words_odd : (k % factor_of b ≡ 0 → ⊥) → k / factor_of b + 1 ≡ words_of b k
-  words_odd h =
-      let p : 0 < factor_of b = omega (arith, factor_lo b) in
-      let s : k % factor_of b < factor_of b = mod-lt k p in
-      let e : k % factor_of b + (factor_of b - 1) ≡ (k % factor_of b - 1) + 1 * factor_of b = omega (arith, factor_lo b) in
-      let q : (k % factor_of b + (factor_of b - 1)) / factor_of b ≡ (k % factor_of b - 1) / factor_of b + 1
-      = ap (λ (x : ℕ). x / factor_of b) e ∙ add-mul-div_right (k % factor_of b - 1) 1 p in
-      let d : (k % factor_of b - 1) / factor_of b ≡ 0 = div-eq_of_lt (omega arith) in
-      omega (arith, rounded)
+-- k / factor rounded up, as `div_ceil` says it
+pub words_up : (b k : ℕ) → k / factor_of b + min 1 (k % factor_of b) ≡ words_of b k
+unfolding words_of
+words_up b k =
+    let f = factor_of b in
+    let p : 0 < f = omega (arith, factor_lo b) in
+    let t = div_ceil_times k f p in
+    sym (div-eq_of_lt-le f (omega (arith, t.1, p)) (omega (arith, t.0, p)))
 
 pub length-packed : (b : ℕ) (xs : List ℕ) → length (pack_row b xs) ≡ words_of b (length xs)
 unfolding pack_row

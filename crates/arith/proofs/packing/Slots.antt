@@ -6,28 +6,7 @@ use lib.Arith.{digits_lt}
 use lib.Bits.{bit_and, bit_or, and_mask, or_shifted_r}
 use Rattle.laws.specs.Sums.{sum}
 use Rattle.laws.proofs.Lists.{room}
-use Rattle.arith.specs.Packing.{Slotted, slot}
-
--- Where a loop over the n slots of a word stands.
-pub record At (n w shift s : ℕ) : Type 0 where
-  pub bound : s ≤ n
-  pub place : shift ≡ s * w
-
-pub at_start : (n w : ℕ) → At n w 0 0
-at_start n w = record { bound = omega arith; place = sym (zero-mul w) }
-
-pub at_next : {n w shift s : ℕ} → At n w shift s → s < n → At n w (shift + w) (s + 1)
-at_next {n} {w} {shift} {s} p h = record {
-  bound = omega arith;
-  place = rw (add-one s, suc-mul s w) (ap (λ (k : ℕ). k + w) p.place);
-}
-
--- slot s lies inside the word
-pub in_word : {b w n shift s : ℕ} → Slotted b w n → At n w shift s → s < n → shift + w ≤ 32
-in_word {b} {w} {n} {shift} {s} f p h = omega (arith, room s n w h, f.fits, p.place)
-
-pub shift_lt : {b w n shift s : ℕ} → Slotted b w n → At n w shift s → s < n → shift < 32
-shift_lt {b} {w} f p h = omega (arith, in_word f p h, f.low, f.wide)
+use Rattle.arith.specs.Packing.{slot}
 
 -- `(word >> shift) & low` is the slot
 pub read : (b w word low shift s : ℕ) → low ≡ 2 ^ b - 1 → shift ≡ s * w → bit_and (word / 2 ^ shift) low ≡ slot b w word s

@@ -1,9 +1,9 @@
 -- What a shape that was not refused says.
-use Rattle.std.proofs.Common.{◌≡◌, ℕ, ◌*◌, ◌≤◌, Bool, false, not, ◌||◌, eqb, ltb, length, refl, ltb-false, eqb-true}
+use Rattle.std.proofs.Common.{◌≡◌, ℕ, ◌*◌, ◌≤◌, Bool, false, not, ◌||◌, eqb, ltb, length, ltb-false, eqb-true}
 use borrow.Author.Tests.{not-false}
 use Rattle.laws.specs.Refusals.{outside}
 use Rattle.laws.proofs.Refusals.{neither, inside}
-use Rattle.builder.specs.Database.{Proposed, proposed, keys_bad}
+use Rattle.builder.specs.Database.{Proposed, keys_bad}
 
 pub record Sized (p : Proposed) : Type 0 where
   pub r_most : p.r ≤ 4096
@@ -55,9 +55,3 @@ module _ (p : Proposed) where
         targets_whole = same (length p.targets) p.count q7.1;
         roomy = ltb-false (length p.held) (p.r * p.columns) q8.1;
       }
-
--- the test asks nothing of b
-pub any_width : (p : Proposed)
-    → keys_bad (proposed 0 p.r p.columns p.count p.rows p.masks p.positions p.targets p.held) ≡ keys_bad p
-unfolding keys_bad
-any_width p = refl

@@ -1,11 +1,11 @@
 -- One key's row, written into its place.
-use Rattle.std.proofs.Common.{◌≡◌, ℕ, ◌+◌, ◌-◌, ◌*◌, ◌%◌, ◌^◌, ◌<◌, ◌≤◌, List, get_or, sym, ap, ◌∙◌, ap₂, add-one, arith}
+use Rattle.std.proofs.Common.{◌≡◌, ℕ, ◌+◌, ◌-◌, ◌%◌, ◌^◌, ◌<◌, ◌≤◌, List, get_or, sym, ap, ◌∙◌, ap₂, arith}
 use borrow.Rule.Slice.PartMut.{put_mid}
 use Rattle.laws.specs.Lists.{build, splice}
 use Rattle.laws.proofs.Lists.{length-build, get_or-build, build_ext}
 use Rattle.laws.proofs.Filling.{put_splice}
 use Rattle.builder.specs.Keys.{Keys}
-use Rattle.builder.specs.Database.{less, others_sum, database}
+use Rattle.builder.specs.Database.{less, others_sum, target_row}
 use Rattle.builder.proofs.database.Less.{less_wrapped, less-less}
 
 -- a part of the words, lent and come back with a row less sums that were wrapped less masks
@@ -26,19 +26,15 @@ lent_row b columns at n f words row sums masks made h e hs hm =
     let made_is : made ≡ build columns new = hm ∙ ap (λ (k : ℕ). build k old) e ∙ build_ext columns old new each in
     rw (size, made_is) (put_splice at columns words (build columns new) (sym (length-build columns new)))
 
--- one key more
-pub key_more : (b r columns : ℕ) (ks : Keys) (n : ℕ) (words ps row masks : List ℕ)
-    → words ≡ database b r columns ks n → ps ≡ ks.places n
+-- that row is key n's target row
+pub row_made : (b columns : ℕ) (ks : Keys) (n : ℕ) (words ps row masks : List ℕ) → ps ≡ ks.places n
     → ((j : ℕ) → j < columns → get_or row j 0 ≡ ks.element n j)
     → ((j : ℕ) → j < columns → get_or masks j 0 ≡ ks.mask n j)
-    → splice (get_or ps (ks.index n) 0 * columns)
-    (build columns (λ j. less b (get_or row j 0) (others_sum columns words ps (ks.index n) j + get_or masks j 0))) words
-    ≡ database b r columns ks (n + 1)
-unfolding database
-key_more b r columns ks n words ps row masks hw hp hr hm =
-    let f : ℕ → ℕ = λ j. less b (get_or row j 0) (others_sum columns words ps (ks.index n) j + get_or masks j 0) in
-    let g : ℕ → ℕ = λ j. less b (ks.element n j) (others_sum columns words ps (ks.index n) j + ks.mask n j) in
-    let e : build columns f ≡ build columns g =
-    build_ext columns f g
-    (λ j l. ap₂ (λ (x y : ℕ). less b x (others_sum columns words ps (ks.index n) j + y)) (hr j l) (hm j l)) in
-    rw (add-one n, e, hp, hw)
+    → build columns (λ j. less b (get_or row j 0) (others_sum columns words ps (ks.index n) j + get_or masks j 0))
+    ≡ target_row b columns ks words n
+row_made b columns ks n words ps row masks hp hr hm =
+    rw hp
+    (build_ext columns
+    (λ j. less b (get_or row j 0) (others_sum columns words (ks.places n) (ks.index n) j + get_or masks j 0))
+    (λ j. less b (ks.element n j) (others_sum columns words (ks.places n) (ks.index n) j + ks.mask n j))
+    (λ j l. ap₂ (λ (x y : ℕ). less b x (others_sum columns words (ks.places n) (ks.index n) j + y)) (hr j l) (hm j l)))

@@ -1,9 +1,9 @@
 -- What a placement that is not broken says of each key.
-use Rattle.std.proofs.Common.{◌≡◌, ℕ, ◌<◌, Bool, false, ◌||◌, leb, List, [], length, refl, leb-false}
+use Rattle.std.proofs.Common.{◌≡◌, ℕ, ◌<◌, Bool, false, ◌||◌, leb, length, leb-false}
 use Rattle.laws.proofs.Refusals.{neither}
 use Rattle.laws.proofs.Search.{none_holds}
 use Rattle.leaves.specs.Positions.{positions_bad}
-use Rattle.builder.specs.Keys.{Keys, target, lent_keys}
+use Rattle.builder.specs.Keys.{Keys, target}
 use Rattle.builder.specs.Placement.{seen_before, key_bad, placement_bad}
 
 -- key i has good positions and a target among them, which no key before it has
@@ -23,10 +23,3 @@ fine r ks i h =
 pub each_fine : (r : ℕ) (ks : Keys) (count : ℕ) → placement_bad r ks count ≡ false → (i : ℕ) → i < count → Fine r ks i
 unfolding placement_bad
 each_fine r ks count h i l = fine r ks i (none_holds (key_bad r ks) count i h l)
-
--- the rule asks nothing of rows and masks
-pub any_rows : (r columns : ℕ) (rows masks positions targets : List ℕ) (count : ℕ)
-    → placement_bad r (lent_keys 0 [] [] positions targets) count
-    ≡ placement_bad r (lent_keys columns rows masks positions targets) count
-unfolding placement_bad key_bad seen_before
-any_rows r columns rows masks positions targets count = refl

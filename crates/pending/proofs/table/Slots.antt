@@ -3,11 +3,12 @@ use mathlib.Core.Path.{◌≡◌, sym, ap, ◌∙◌}
 use mathlib.Core.Bool.{true, false, not, and-eq-true_iff}
 use mathlib.Core.List.{List}
 use Prim.Native.Nat.{ℕ, ◌+◌, ◌<◌}
+use native.Mathlib.Decide.{ℕ_discrete}
 use native.Mathlib.Omega.{arith}
 use lib.Dec.{ltb, eqb}
 use lib.ListN.{length, replicate, length-replicate}
 use lib.Seq.{get_or-set_same, get_or-set_other}
-use borrow.Author.Tests.{ltb-true, lt-ltb, le-ltb, eqb-true, not-false}
+use borrow.Author.Tests.{ltb-true, lt-ltb, le-ltb, eqb-true, eq-eqb, ne_eqb, not-false}
 use Rattle.laws.specs.Search.{some}
 use Rattle.laws.proofs.Search.{lowest_holds, lowest-le, some-lowest}
 use Rattle.laws.proofs.Splice.{row_replaced, row_kept}
@@ -49,6 +50,13 @@ module _ (t : Table) where
   pub some_free : ¬ (slot_of t 0 ≡ 64) → full t ≡ false
   some_free ne =
       let l : slot_of t 0 < 64 = omega (arith, lowest-le (numbered t 0) 64) in full_is ∙ ap not (lt-ltb (slot_of t 0) 64 l)
+
+  pub full_test : full t ≡ eqb (slot_of t 0) 64
+  full_test =
+      elim (ℕ_discrete (slot_of t 0) 64) [
+        | yes e ↦ none_free e ∙ sym (eq-eqb (slot_of t 0) 64 e)
+        | no ne ↦ some_free ne ∙ sym (ne_eqb (slot_of t 0) 64 ne)
+      ]
 
 -- slot q holds in t what it holds in u
 pub record Kept (t u : Table) (q : ℕ) : Type 0 where

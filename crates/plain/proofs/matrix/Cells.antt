@@ -48,13 +48,12 @@ unfolding transposed
 cell-transposed r c x i j hi hj = cell-grid c r (λ j i. cell c x i j) j i hj hi
 
 -- a row of the product, from the row of the left matrix
-pub row_of_times : (m c : ℕ) (x y : List ℕ) (i : ℕ) (xs : List ℕ) (n : ℕ) → xs ≡ row m x i → length xs ≡ m → n ≡ c
-    → build n (λ j. sum (length xs) (λ t. get_or xs t 0 * cell n y t j) % 2 ^ 32)
+pub row_of_times : (m c : ℕ) (x y : List ℕ) (i : ℕ) (xs : List ℕ) → xs ≡ row m x i
+    → build c (λ j. sum m (λ t. get_or xs t 0 * cell c y t j) % 2 ^ 32)
     ≡ build c (λ j. sum m (λ t. cell m x i t * cell c y t j) % 2 ^ 32)
-row_of_times m c x y i xs n hx hm hc =
-    rw (hm, hc)
-    (build_ext c _ _
+row_of_times m c x y i xs hx =
+    build_ext c _ _
     (λ j _.
     ap (λ (s : ℕ). s % 2 ^ 32)
     (sum_ext m (λ t. get_or xs t 0 * cell c y t j) (λ t. cell m x i t * cell c y t j)
-    (λ t h. ap (λ (z : ℕ). z * cell c y t j) (ap (λ (l : List ℕ). get_or l t 0) hx ∙ row-cell m x i t h)))))
+    (λ t h. ap (λ (z : ℕ). z * cell c y t j) (ap (λ (l : List ℕ). get_or l t 0) hx ∙ row-cell m x i t h))))

@@ -9,27 +9,16 @@ use native.Mathlib.Omega.{arith}
 use lib.Dec.{eqb}
 use lib.ListN.{length, replicate}
 use borrow.Author.Tests.{eqb-false, ne_eqb}
-use Rattle.laws.specs.Refusals.{◌⇒◌, first, after, outside}
+use Rattle.laws.specs.Refusals.{◌⇒◌, first, outside}
 use Rattle.laws.specs.Lists.{splice, laid}
 use Rattle.laws.proofs.Refusals.{passed, refused_before, Clear, all_clear, clear_before, not_answered}
 use Rattle.leaves.specs.Positions.{positions_bad}
 use Rattle.pending.specs.declared.table.Table.{Table}
-use Rattle.client_answers.specs.declared.open.Opening.{Opening}
-use Rattle.client_answers.specs.declared.open.Opening.TheVariants as opening
 use Rattle.pending.specs.Table.{digest_pending, full, slot_of, taken}
 use Rattle.queries.specs.Open.{Asked, both_read, either_short, wraps, marked, noisy_of, stored_secret, open_tests, open_number}
 use Rattle.queries.specs.Open.{OpenSaid, open_of, left, open_left}
-use Rattle.client_answers.specs.Open.{opening_number, opening_ticket, opening_read}
 use Rattle.pending.proofs.table.Slots.{slot_free}
 use Rattle.queries.proofs.open.Sizes.{Limited, limited, Shaped, shaped}
-
--- the ticket and the count that an answer gives
-module _ (o : Opening) (t k : ℕ) (told : o ≡ opening.Ticket t k) where
-  pub ticket_told : (next : ℕ) → opening_ticket o ≡ after (opening_number o) next 0 → t ≡ next
-  ticket_told next e = rw told at e
-
-  pub read_told : (read : ℕ) → opening_read o ≡ after (opening_number o) read 0 → k ≡ read
-  read_told read e = rw told at e
 
 -- the number of the first step
 unfoldable pub early : Asked → ℕ

@@ -5,33 +5,36 @@ use mathlib.Core.List.{List}
 use Prim.Native.Nat.{ℕ, ◌+◌, ◌-◌, ◌^◌, ◌<◌, ◌≤◌}
 use native.Mathlib.Nat.{add-zero}
 use native.Mathlib.Numerals.{add-one}
-use native.Mathlib.Decide.{ℕ_discrete}
+use native.Mathlib.Decide.{ℕ_discrete, dec_lt}
 use native.Mathlib.Omega.{arith}
 use lib.Dec.{leb, eqb}
 use lib.ListN.{length, get_or, set, length-set}
 use lib.Pow.{pow-lt}
 use lib.Seq.{ext_get_or, get_or-set_same, get_or-set_other}
-use borrow.Author.Tests.{leb-false, eq-eqb, ne_eqb}
+use borrow.Author.Tests.{leb-false, le-leb, lt-leb, le-ltb, lt-ltb, eq-eqb, ne_eqb}
 use Rattle.laws.specs.Lists.{build}
 use Rattle.laws.specs.Search.{some}
 use Rattle.laws.proofs.Lists.{length-build, get_or-build, build_ext, build-get_or}
 use Rattle.laws.proofs.Search.{none_holds, some-false}
 use Rattle.leaves.specs.Positions.{among, positions_bad}
 use Rattle.leaves.proofs.positions.Distinct.{below, distinct}
-use Rattle.leaves.specs.Rounding.{delta, indicator_of}
+use Rattle.leaves.specs.Rounding.{delta}
+use Rattle.std.specs.Prelude.{nat_lt}
 use Rattle.queries.specs.Open.{wraps, marked}
-use Rattle.leaves.proofs.rounding.Indicator.{indicator_is}
-
--- Δ of a width in use, which is a word
-pub delta_is : (b : ℕ) → 4 ≤ b → b ≤ 14 → (d : ℕ) → d ≡ indicator_of b → (d ≡ delta b) × (d < 2 ^ 32)
-delta_is b h k d e =
-    let same : d ≡ delta b = e ∙ indicator_is b (omega arith) (omega arith) in
-    let less : 32 - b < 32 = omega arith in
-    (same, rw same (pow-lt {j = 32} less))
 
 -- the test that `wraps` makes at position s
 abbrev pub over : ℕ → List ℕ → List ℕ → ℕ → Bool
 over b ps q s = leb (2 ^ 32) (get_or q (get_or ps s 0) 0 + delta b)
+
+-- the code's test, at the width's Δ
+pub over_is : (b x : ℕ) → 4 ≤ b → b ≤ 14 → nat_lt (4294967295 - delta b) x ≡ leb (2 ^ 32) (x + delta b)
+over_is b x h k =
+    let few : 32 - b < 32 = omega arith in
+    let small : delta b < 2 ^ 32 = pow-lt {j = 32} few in
+    elim (dec_lt (4294967295 - delta b) x) [
+      | yes l ↦ lt-ltb _ _ l ∙ sym (le-leb _ _ (omega arith))
+      | no g ↦ le-ltb _ _ (omega arith) ∙ sym (lt-leb _ _ (omega arith))
+    ]
 
 -- where none wraps
 pub no_wrap : (b : ℕ) (ps q : List ℕ) → wraps b ps q ≡ false → (s : ℕ) → s < length ps → get_or q (get_or ps s 0) 0 + delta b < 2 ^ 32

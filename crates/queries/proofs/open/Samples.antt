@@ -1,5 +1,5 @@
 -- What the samplers say where their sizes and the interval are allowed: 3, or what they read.
-use mathlib.Core.Path.{◌≡◌, refl, ap, ◌∙◌}
+use mathlib.Core.Path.{◌≡◌, refl, sym, ap, ◌∙◌}
 use mathlib.Core.Bool.{Bool, true, false}
 use mathlib.Core.List.{List, [], ◌∷◌}
 use Prim.Native.Nat.{ℕ, ◌-◌, ◌<◌, ◌≤◌}
@@ -9,7 +9,14 @@ use lib.Seq.{take_all}
 use borrow.Author.Tests.{le-ltb}
 use Rattle.laws.specs.Refusals.{◌⇒◌, first, outside}
 use Rattle.laws.proofs.Refusals.{passed}
-use Rattle.samples.specs.Sampler.{sample_number, too_few}
+use Rattle.laws.proofs.Refusals.{written}
+use Rattle.std.specs.Prelude.{Result, Ok, Err, MatchResult}
+use Rattle.answers.specs.declared.sampler.SamplingRefusal.{SamplingRefusal}
+use Rattle.answers.specs.Sampler.{sampling_number, sampling_read, sampling_refuses}
+use Rattle.client_answers.specs.declared.open.OpeningRefusal.{OpeningRefusal}
+use Rattle.client_answers.specs.declared.open.OpeningRefusal.TheVariants as opening
+use Rattle.samples.specs.Sampler.{sample_number, sample_read, shortest, too_few}
+use Rattle.samples.proofs.sampler.Shortest.{shortest_within}
 
 -- a number that is not 0 is that of a test that holds
 pub refuses : (t : Bool) (k : ℕ) → 0 < first (t ⇒ k ∷ []) → t ≡ true
@@ -26,11 +33,23 @@ module _ (interval n : ℕ) (words : List ℕ) (small : n ≤ 4096) (allowed : o
   unfolding sample_number
   only_short = simp (le-ltb 4096 n small, allowed)
 
-  pub refused_few : 0 < sample_number interval n words → too_few interval n words ≡ true
+  refused_few : 0 < sample_number interval n words → too_few interval n words ≡ true
   refused_few h = refuses (too_few interval n words) 3 (rw only_short at h)
 
-  pub passed_few : sample_number interval n words ≡ 0 → too_few interval n words ≡ false
+  passed_few : sample_number interval n words ≡ 0 → too_few interval n words ≡ false
   passed_few e = (passed (too_few interval n words) 2 [] (rw only_short at e)).0
+
+  -- an answer whose reason was made 3: the words that are read, or there are too few
+  pub counted : (a : Result ℕ SamplingRefusal) (r : Result ℕ OpeningRefusal)
+      → sampling_number a ≡ sample_number interval n words
+      → sampling_read a ≡ sample_read interval n words
+      → MatchResult a (λ s. r ≡ Ok s) (λ _. r ≡ Err opening.Short)
+      → MatchResult r (λ s. (s ≡ shortest interval n words) × (s ≤ length words) × (too_few interval n words ≡ false))
+      (λ e. (e ≡ opening.Short) × (too_few interval n words ≡ true))
+  counted (Ok s) r p q e =
+      let t : s ≡ shortest interval n words = q ∙ sym (written (sample_number interval n words) (shortest interval n words) 0 (sym p)) in
+      rw e (t, rw t (shortest_within interval n words), passed_few (sym p))
+  counted (Err reason) r p q e = rw e (refl, refused_few (rw p at (sampling_refuses reason)))
 
   pub enough_passes : too_few interval n words ≡ false → sample_number interval n words ≡ 0
   enough_passes e = only_short ∙ ap (λ (t : Bool). first (t ⇒ 3 ∷ [])) e

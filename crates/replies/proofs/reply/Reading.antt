@@ -1,16 +1,18 @@
 -- The row reader inside a reply: its buffers have room for every digest and value, so it refuses the row or nothing.
 use Rattle.std.proofs.Common.{◌≡◌, ℕ, ◌<◌, ◌≤◌, Bool, true, false, List, [], ◌∷◌, length, take, replicate, sym, ap, ◌∙◌, arith, length-take, le-ltb, eq-eqb}
 use Rattle.laws.specs.Refusals.{Test, ◌⇒◌, first}
-use Rattle.laws.proofs.Refusals.{within, refused_before, all_clear, clear_before, written}
+use Rattle.laws.proofs.Refusals.{inside, within, refused_before, all_clear, clear_before, written}
 use Rattle.laws.proofs.Lists.{length_part}
 use Rattle.laws.proofs.Filling.{laid_whole, take-laid}
 use Rattle.leaves.specs.Limits.{elements_bad}
-use Rattle.rows.specs.Codec.{bytes_in, value_room_of, columns_bad, bytes_of, marker_bad, value_length, digest_of, value_of}
+use Rattle.rows.specs.Codec.{bytes_in, room_of, value_room_of, columns_bad, bytes_of, marker_bad, value_length, digest_of, value_of}
 use Rattle.rows.specs.Codec.{reader_bad, decode_number, decode_digest_after, decode_value_after}
-use Rattle.rows.proofs.codec.Sizes.{sized, few_bits}
+use Rattle.rows.proofs.codec.Sizes.{sized, room_is, few_bits}
 use Rattle.rows.proofs.codec.Bytes.{length_bytes, last_le}
 use Rattle.rows.proofs.codec.Answers.{accepted}
+use Rattle.pending.specs.Table.{malformed}
 use Rattle.pending.specs.declared.table.Table.{Table}
+use Rattle.pending.proofs.table.Formed.{formed}
 use Rattle.replies.specs.Reply.{digest_bad, row_number_of}
 
 -- a table within its limits, and a row of its length
@@ -19,6 +21,16 @@ pub record Readable (t : Table) (row : List ℕ) : Type 0 where
   pub most : t.b ≤ 14
   pub columns_in : columns_bad t.b t.columns ≡ false
   pub whole : length row ≡ t.columns
+
+pub readable : (t : Table) (row : List ℕ) → malformed t ≡ false → length row ≡ t.columns → Readable t row
+readable t row e whole =
+    let f = formed t e in
+    let w = inside 4 14 _ f.width_in in
+    record { least = w.0; most = w.1; columns_in = f.columns_in; whole = whole }
+
+-- its columns are not refused, so that the room for a value is the definition's
+pub room_in : (t : Table) → malformed t ≡ false → room_of t.b t.columns ≡ value_room_of t.b t.columns
+room_in t e = room_is _ _ (formed t e).columns_in
 
 -- what the reader answers, given buffers of 32 and 863 bytes
 abbrev pub reader_number : Table → List ℕ → ℕ

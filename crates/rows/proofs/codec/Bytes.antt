@@ -1,17 +1,34 @@
 -- The bytes of a row, and the search for the last of them that is not zero.
-use mathlib.Core.Path.{◌≡◌, refl, sym, ap, ◌∙◌}
+use mathlib.Core.Path.{◌≡◌, sym, ap, ◌∙◌}
 use mathlib.Core.Bool.{Bool, true, false, cond}
-use mathlib.Core.List.{List}
+use mathlib.Core.List.{List, ◌++◌}
 use Prim.Native.Nat.{ℕ, zero, suc, ◌*◌, ◌-◌, ◌<◌, ◌≤◌}
 use native.Mathlib.Nat.{not-suc-le-zero}
 use native.Mathlib.Omega.{arith}
 use native.Mathlib.Decide.{dec_lt}
 use lib.Dec.{eqb}
-use lib.ListN.{length, get_or}
+use lib.ListN.{length, get_or, drop}
 use borrow.Author.Tests.{eq-eqb, ne_eqb}
+use Rattle.laws.specs.Lists.{build, laid}
 use Rattle.laws.specs.Bits.{bit_of, gathered}
+use Rattle.laws.proofs.Lists.{build-get_or, build_ext}
 use Rattle.laws.proofs.Bits.{length-carried, get_or-carried}
-use Rattle.rows.specs.Codec.{bytes_in, bytes_of, last_nonzero}
+use Rattle.rows.specs.Codec.{bytes_in, record_of, row_of, bytes_of, last_nonzero}
+
+-- a list that has f i at each place i
+pub built : (xs : List ℕ) (n : ℕ) (f : ℕ → ℕ) → length xs ≡ n → ((i : ℕ) → i < n → get_or xs i 0 ≡ f i) → xs ≡ build n f
+built xs n f h here =
+    sym (build-get_or xs 0) ∙ ap (λ m. build m (λ i. get_or xs i 0)) h ∙ build_ext n (λ i. get_or xs i 0) f here
+
+-- the start of an output, which was lent and holds ys now
+pub front : (n : ℕ) (ys old : List ℕ) → length ys ≡ n → ys ++ drop n old ≡ laid ys old
+unfolding laid
+front n ys old h = ap (λ k. ys ++ drop k old) (sym h)
+
+-- a row that is written has its columns
+pub length_row : (b columns : ℕ) (digest value : List ℕ) → length (row_of b columns digest value) ≡ columns
+unfolding row_of
+length_row b columns digest value = length-carried b columns (bit_of 8 (record_of b columns digest value))
 
 module _ (b columns : ℕ) (row : List ℕ) where
   pub length_bytes : length (bytes_of b columns row) ≡ bytes_in b columns
@@ -33,10 +50,6 @@ module _ (xs : List ℕ) where
   unfolding last_nonzero
   last_less zero l h = absurd (not-suc-le-zero l)
   last_less (suc n) l h = let e : suc n - 1 ≡ n = omega arith in rw (e, eq-eqb (get_or xs n 0) 0 (rw e at h))
-
-  pub last_none : last_nonzero 0 xs ≡ 0
-  unfolding last_nonzero
-  last_none = refl
 
   pub last_le : (n : ℕ) → last_nonzero n xs ≤ n - 1
   unfolding last_nonzero

@@ -21,7 +21,7 @@ use Rattle.rows.specs.Codec.{bytes_of, last_nonzero, marker_bad, reader_bad, val
 use Rattle.rows.proofs.codec.Sizes.{sized}
 use Rattle.rows.proofs.codec.Answers.{Taken, taken}
 use Rattle.rows.proofs.codec.Record.{marked, byte_digest, byte_value, byte_marker, byte_past, length_marked, record_byte}
-use Rattle.rows.proofs.codec.Bytes.{last_at}
+use Rattle.rows.proofs.codec.Bytes.{length_row, last_at}
 
 -- The bits are carried over: bit k of the bytes that are read is bit k of the row ..
 pub row_to_bytes : (b columns : ℕ) (row : List ℕ) (k : ℕ) → k < bytes_in b columns * 8 → bit_of 8 (bytes_of b columns row) k ≡ bit_of b row k
@@ -35,11 +35,7 @@ unfolding row_of
 record_to_row b columns digest value pos k h =
     bit_carried b columns (bit_of 8 (record_of b columns digest value)) (bit_lt 8 (record_of b columns digest value)) pos k h
 
--- a row that was written has its columns, and an element of it b bits
-length-row : (b columns : ℕ) (digest value : List ℕ) → length (row_of b columns digest value) ≡ columns
-unfolding row_of
-length-row b columns digest value = length-carried b columns (bit_of 8 (record_of b columns digest value))
-
+-- an element of a row that was written has b bits
 written_elements : (b columns : ℕ) (digest value : List ℕ) → elements_bad b (row_of b columns digest value) ≡ false
 unfolding any_above row_of
 written_elements b columns digest value =
@@ -142,7 +138,7 @@ module _ (b columns room : ℕ) (digest value : List ℕ)
       → ReadBack b columns digest_room value_room digest value (row_of b columns digest value)
   unfolding decode_number reader_bad
   read_back digest_room value_room hd hv =
-      let len : length (row_of b columns digest value) ≡ columns = length-row b columns digest value in
+      let len : length (row_of b columns digest value) ≡ columns = length_row b columns digest value in
       record {
         success =
             simp (

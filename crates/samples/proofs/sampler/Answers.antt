@@ -1,25 +1,23 @@
 -- The entries' first step: what a refusal and what success say.
-use mathlib.Core.Path.{◌≡◌, sym, ap, ◌∙◌}
-use mathlib.Core.Bool.{false}
-use mathlib.Core.List.{List, [], ◌∷◌}
-use Prim.Native.Nat.{ℕ, ◌<◌, ◌≤◌}
-use lib.Dec.{ltb}
-use lib.ListN.{length}
-use Rattle.laws.specs.Refusals.{◌⇒◌, outside}
-use Rattle.laws.proofs.Refusals.{passed, inside, kept, written}
-use Rattle.answers.specs.declared.sampler.Sampling.{Sampling}
-use Rattle.answers.specs.declared.sampler.Sampling.TheVariants.{Read}
-use Rattle.samples.specs.Sampler.{sample_number, sample_read, shortest, too_few}
+use Rattle.std.proofs.Common.{◌≡◌, ℕ, zero, suc, ◌≤◌, false, ltb, List, [], ◌∷◌, length, Result, Ok, sym, ap, ◌∙◌, arith}
+use Rattle.laws.specs.Refusals.{◌⇒◌, outside, after}
+use Rattle.laws.proofs.Refusals.{passed, inside, written}
+use Rattle.answers.specs.declared.sampler.SamplingRefusal.{SamplingRefusal}
 use Rattle.answers.specs.Sampler.{sampling_number, sampling_read}
+use Rattle.samples.specs.Sampler.{sample_number, sample_read, shortest, too_few}
 use Rattle.samples.proofs.sampler.Shortest.{shortest_within}
 
 module _ (interval n : ℕ) (words : List ℕ) where
-  -- a refusal reads none
-  pub unread : 0 < sample_number interval n words → 0 ≡ sample_read interval n words
-  unread h = kept (sample_number interval n words) (shortest interval n words) 0 h
+  -- whatever the answer, no more is read than there is
+  pub read_inside : sample_read interval n words ≤ length words
+  read_inside = most (sample_number interval n words) (shortest_within interval n words)
+    where
+      most : (number : ℕ) → shortest interval n words ≤ length words → after number (shortest interval n words) 0 ≤ length words
+      most zero h = h
+      most (suc k) h = omega arith
 
   -- an answer that reads m words is success, and m is the shortest start's length
-  module _ (r : Sampling) (m : ℕ) (told : r ≡ Read m) (number : sampling_number r ≡ sample_number interval n words) where
+  module _ (r : Result ℕ SamplingRefusal) (m : ℕ) (told : r ≡ Ok m) (number : sampling_number r ≡ sample_number interval n words) where
     pub success : sample_number interval n words ≡ 0
     success = sym number ∙ ap sampling_number told
 

@@ -1,79 +1,39 @@
--- What a start of the words gives, and one word more.
-use mathlib.Core.Path.{◌≡◌, refl, sym, ap, ◌∙◌}
-use mathlib.Core.Bool.{Bool, true, false, cond}
-use mathlib.Core.List.{List, [], ◌∷◌, ◌++◌, append-nil}
-use Prim.Native.Nat.{ℕ, ◌+◌, ◌*◌, ◌<◌, ◌≤◌}
-use native.Mathlib.Numerals.{add-one}
-use native.Mathlib.Omega.{arith}
-use native.Mathlib.Decide.{dec_le}
-use lib.ListN.{length, get_or, take, drop, length-append, take-append-drop}
-use lib.Seq.{take-suc}
-use borrow.Author.Tests.{le-leb, lt-leb}
+-- What a start of the words gives, and one word more: the values of the accepted ones.
+use Rattle.std.proofs.Common.{◌≡◌, ℕ, ◌+◌, ◌<◌, ◌≤◌, Bool, true, false, cond, List, [], ◌∷◌, ◌++◌, length, get_or, take, drop, map, refl, sym, ap, ◌∙◌, arith, length-append}
+use Rattle.std.proofs.lemmas.List.{length-map, map-append}
+use lib.ListN.{take-append-drop}
+use Rattle.std.specs.List.{filter}
+use Rattle.std.proofs.lemmas.List.Elements.{filter-append}
+use Rattle.std.proofs.lemmas.List.Filters.{length-filter_more}
 use Rattle.samples.specs.Sampler.{accepted, ternary, given}
 
 module _ (interval : ℕ) where
-  given_append : (xs ys : List ℕ) → given interval (xs ++ ys) ≡ given interval xs ++ given interval ys
+  pub given_is : (words : List ℕ) → given interval words ≡ map (ternary interval) (filter (accepted interval) words)
   unfolding given
-  given_append [] ys = refl
-  given_append (x ∷ xs) ys = by_test (accepted interval x) (given_append xs ys)
+  given_is [] = refl
+  given_is (x ∷ xs) = by_test (accepted interval x) (given_is xs)
     where
-      by_test : (t : Bool) → given interval (xs ++ ys) ≡ given interval xs ++ given interval ys
-          → cond t (ternary interval x ∷ given interval (xs ++ ys)) (given interval (xs ++ ys))
-          ≡ cond t (ternary interval x ∷ given interval xs) (given interval xs) ++ given interval ys
+      by_test : (t : Bool) → given interval xs ≡ map (ternary interval) (filter (accepted interval) xs)
+          → cond t (ternary interval x ∷ given interval xs) (given interval xs)
+          ≡ map (ternary interval) (cond t (x ∷ filter (accepted interval) xs) (filter (accepted interval) xs))
       by_test true e = ap (λ l. ternary interval x ∷ l) e
       by_test false e = e
 
+  pub length-given : (words : List ℕ) → length (given interval words) ≡ length (filter (accepted interval) words)
+  length-given words = ap length (given_is words) ∙ length-map (filter (accepted interval) words) (ternary interval)
+
   -- the whole is what a start gives and then what its rest gives
   pub given_split : (r : ℕ) (words : List ℕ) → given interval words ≡ given interval (take r words) ++ given interval (drop r words)
-  given_split r words = ap (given interval) (sym (take-append-drop r words)) ∙ given_append (take r words) (drop r words)
+  given_split r words =
+      ap (given interval) (sym (take-append-drop r words))
+      ∙ simp (given_is, filter-append, map-append) refl
 
   pub given-le : (r : ℕ) (words : List ℕ) → length (given interval (take r words)) ≤ length (given interval words)
   given-le r words =
       omega (arith, ap length (given_split r words), length-append (given interval (take r words)) (given interval (drop r words)))
 
-  -- an accepted word gives its value, a skipped one nothing
-  gives_one : (x : ℕ) → x ≤ 3 * interval → given interval (x ∷ []) ≡ ternary interval x ∷ []
-  unfolding given accepted
-  gives_one x l = simp (le-leb x (3 * interval) l)
-
-  gives_none : (x : ℕ) → 3 * interval < x → given interval (x ∷ []) ≡ []
-  unfolding given accepted
-  gives_none x l = simp (lt-leb x (3 * interval) l)
-
-  module _ (words : List ℕ) (r : ℕ) (h : r < length words) where
-    more : given interval (take (r + 1) words) ≡ given interval (take r words) ++ given interval (get_or words r 0 ∷ [])
-    more =
-        ap (λ (i : ℕ). given interval (take i words)) (add-one r)
-        ∙ ap (given interval) (take-suc words r 0 h)
-        ∙ given_append (take r words) (get_or words r 0 ∷ [])
-
-    pub given_more : get_or words r 0 ≤ 3 * interval
-        → given interval (take (r + 1) words) ≡ given interval (take r words) ++ (ternary interval (get_or words r 0) ∷ [])
-    given_more l = more ∙ ap (λ xs. given interval (take r words) ++ xs) (gives_one (get_or words r 0) l)
-
-    pub given_skip : 3 * interval < get_or words r 0 → given interval (take (r + 1) words) ≡ given interval (take r words)
-    given_skip l =
-        more
-        ∙ ap (λ xs. given interval (take r words) ++ xs) (gives_none (get_or words r 0) l)
-        ∙ append-nil (given interval (take r words))
-
-    pub length_more : get_or words r 0 ≤ 3 * interval
-        → length (given interval (take (r + 1) words)) ≡ length (given interval (take r words)) + 1
-    length_more l =
-        ap length (given_more l)
-        ∙ length-append (given interval (take r words)) (ternary interval (get_or words r 0) ∷ [])
-
-    -- before an accepted word, fewer are given than in all
-    pub length_rest : get_or words r 0 ≤ 3 * interval → length (given interval (take r words)) < length (given interval words)
-    length_rest l = omega (arith, length_more l, given-le (r + 1) words)
-
-    -- either way one word gives no more than one
-    pub length_most : length (given interval (take (r + 1) words)) ≤ length (given interval (take r words)) + 1
-    length_most =
-        elim (dec_le (get_or words r 0) (3 * interval)) [
-          | yes l ↦ omega (arith, length_more l)
-          | no g ↦ skipped (omega arith)
-        ]
-      where
-        skipped : 3 * interval < get_or words r 0 → length (given interval (take (r + 1) words)) ≤ length (given interval (take r words)) + 1
-        skipped l = omega (arith, ap length (given_skip l))
+  -- one word more gives one value more where it is accepted, and else none
+  pub length-given_more : (r : ℕ) (words : List ℕ) → r < length words
+      → length (given interval (take (r + 1) words))
+      ≡ length (given interval (take r words)) + cond (accepted interval (get_or words r 0)) 1 0
+  length-given_more r words h = simp length-given (length-filter_more (accepted interval) words r 0 h)

@@ -1,19 +1,23 @@
 -- The law "shortest": the words that the sampler reads are the shortest start of the words that holds enough.
 use mathlib.Core.Path.{◌≡◌, ap, ◌∙◌}
-use mathlib.Core.Bool.{false}
+use mathlib.Core.Bool.{Bool, true, false, cond}
 use mathlib.Core.List.{List, []}
 use Prim.Native.Nat.{ℕ, zero, suc, ◌<◌, ◌≤◌}
 use native.Mathlib.Nat.{not-suc-le-zero}
 use native.Mathlib.Numerals.{add-one}
 use native.Mathlib.Omega.{arith}
 use native.Mathlib.Decide.{dec_lt}
-use lib.ListN.{length, take, drop}
+use lib.ListN.{length, get_or, take, drop}
 use lib.Seq.{take_all, take_at}
 use borrow.Author.Tests.{leb-true, leb-false, ltb-false, le-leb, le-ltb}
 use Rattle.laws.specs.Search.{some}
 use Rattle.laws.proofs.Search.{none_holds, lowest_is, lowest-le, lowest_holds, lowest_below}
-use Rattle.samples.specs.Sampler.{given, holds_enough, shortest, too_few}
-use Rattle.samples.proofs.sampler.Given.{given_split, given-le, length_most}
+use Rattle.samples.specs.Sampler.{accepted, given, holds_enough, shortest, too_few}
+use Rattle.samples.proofs.sampler.Given.{given_split, given-le, length-given_more}
+
+cond_most : (t : Bool) → cond t 1 0 ≤ 1
+cond_most true = omega arith
+cond_most false = omega arith
 
 module _ (interval n : ℕ) (words : List ℕ) where
   -- one word gives no more than one, so the shortest start holds no more than enough
@@ -22,7 +26,8 @@ module _ (interval n : ℕ) (words : List ℕ) where
   unfolding given
   exact zero h fewer l = omega arith
   exact (suc j) h fewer l =
-      let most = rw (add-one j) at (length_most interval words j h) in omega (arith, most, fewer j (omega arith))
+      let one = rw (add-one j) at (length-given_more interval j words h) in
+      omega (arith, one, fewer j (omega arith), cond_most (accepted interval (get_or words j 0)))
 
   pub shortest_within : shortest interval n words ≤ length words
   unfolding shortest

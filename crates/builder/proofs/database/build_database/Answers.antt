@@ -1,64 +1,50 @@
--- The refusals in 01's order, and then the keys.
-use Rattle.std.proofs.Common.{◌≡◌, ◌-◌, ◌*◌, length, sym, ap, ◌∙◌, mul-le-mul, arith, rules}
+-- The keys' shape was tested, and on success the database is laid over the words that were lent.
+use Rattle.std.proofs.Common.{◌≡◌, ◌*◌, ◌++◌, ℕ, List, length, drop, sym, ap, ◌∙◌, rules, length-take-le}
 use Rattle.laws.specs.Lists.{laid}
-use Rattle.laws.proofs.Refusals.{kept, written}
-use Rattle.laws.proofs.Lists.{length_part}
-use Rattle.laws.proofs.Filling.{front_laid}
-use Rattle.builder.specs.Database.{Proposed, proposed, build_number}
-use Rattle.answers.specs.Database.{building_number}
-use Rattle.answers.proofs.Refusing.{building_refusing}
-use Rattle.builder.proofs.database.Answers.{Accepted, accepted}
+use Rattle.laws.proofs.Refusals.{written}
+use Rattle.builder.specs.Database.{Proposed, proposed, build_number, build_after, database, keys_of}
+use Rattle.builder.proofs.database.Sizes.{Sized, sized}
 use Rattle.builder.proofs.database.build_database.Goals as goal
-use Rattle.builder.proofs.database.build_database.Goals.{After-place_keys, In-Done, Start}
+use Rattle.builder.proofs.database.build_database.Goals.{Else-keys_bad}
 
--- what is lent
-abbrev lent : Start → Proposed
-lent st =
-    let a = st.args in
-    proposed a.b a.r a.columns a.count a.rows.now a.masks.now a.positions.now a.targets.now
-    a.database.now
+built : (p : Proposed) (words : List ℕ) → build_number p ≡ 0 → length words ≡ p.r * p.columns
+    → words ≡ database p.b p.r p.columns (keys_of p) p.count
+    → words ++ drop (p.r * p.columns) p.held ≡ build_after p
+unfolding laid
+built p words z h e =
+    ap (λ n. words ++ drop n p.held) (sym h) ∙ ap (λ xs. laid xs p.held) e ∙ written _ _ _ z
 
--- where nothing was refused
-module _ (c : In-Done) where
-  none : build_number (lent (goal.at.In-Done c).Start) ≡ 0
-  none = sym c.refusal-answer.ensures ∙ ap building_number c.in-Done.is
+shape : (c : Else-keys_bad)
+    → let a = c.args in
+    Sized (proposed a.b a.r a.columns a.count a.rows.now a.masks.now a.positions.now a.targets.now a.database.now)
+shape c = sized _ (sym (c.keys_bad.ensures c.args.b) ∙ c.if-keys_bad.false)
 
-  good : Accepted (lent (goal.at.In-Done c).Start)
-  good = accepted (lent (goal.at.In-Done c).Start) none
-
-pub returns-in_default : goal.returns-in_default
-returns-in_default c =
-    let e = c.refusal-answer.ensures in
-    record {
-      number = e;
-      database_after = kept _ _ _ (rw e at (building_refusing c.refusal-answer.result c.in_default.not-Done));
+pub invariant_of-keys : goal.invariant_of-keys
+invariant_of-keys c =
+    let z = shape (goal.at.invariant_of-keys c).Else-keys_bad in record {
+      r_most = z.r_most;
+      columns_most = z.columns_most;
+      rows_whole = z.rows_whole;
+      masks_whole = z.masks_whole;
+      positions_whole = z.positions_whole;
+      targets_whole = z.targets_whole;
     }
-
-pub overflow_mul-end : goal.overflow_mul-end
-overflow_mul-end c = let z = (good c).shape in omega (arith, mul-le-mul z.r_most z.columns_most)
 
 pub slice_bounds-place_keys-end : goal.slice_bounds-place_keys-end
-slice_bounds-place_keys-end c = (good c).shape.roomy
+slice_bounds-place_keys-end c = (shape (goal.at.slice_bounds-place_keys-end c).Else-keys_bad).roomy
 
-pub place_keys-requires : goal.place_keys-requires
-place_keys-requires c =
-    let p = lent (goal.at.place_keys-requires c).Start in
-    let g = good (goal.at.place_keys-requires c).In-Done in
-    let z = g.shape in
-    let size : p.r * p.columns - 0 ≡ p.r * p.columns = omega arith in record {
-      b_bound = (g.b_most, z.columns_most, rw size (length_part 0 (p.r * p.columns) p.held (omega (arith, z.roomy))));
-      rows_len = (z.rows_whole, z.masks_whole);
-      positions_len = (z.positions_whole, z.targets_whole);
-      count_value = g.placement;
-    }
+pub slice_bounds-place_keys-end-2 : goal.slice_bounds-place_keys-end-2
+slice_bounds-place_keys-end-2 c = sym (length-take-le _ _ (shape (goal.at.slice_bounds-place_keys-end-2 c).Else-keys_bad).roomy)
 
-pub returns : goal.returns
-returns c =
-    let p = lent (goal.at.returns c).Start in
-    let z = none (goal.at.returns c).In-Done in
-    let w = c.place_keys.new.words in
-    let size : p.r * p.columns ≡ length w = search rules in
-    record {
-      number = sym z;
-      database_after = front_laid (p.r * p.columns) p.held w size ∙ ap (λ xs. laid xs p.held) c.place_keys.ensures ∙ written _ _ _ z;
-    }
+pub place_keys-requires-clause-words_len : goal.place_keys-requires-clause-words_len
+place_keys-requires-clause-words_len c = length-take-le _ _ (shape (goal.at.place_keys-requires-clause-words_len c).Else-keys_bad).roomy
+
+pub returns-clause-database_after : goal.returns-clause-database_after
+unfolding build_number
+returns-clause-database_after c =
+    let a = c.args in
+    let p = proposed a.b a.r a.columns a.count a.rows.now a.masks.now a.positions.now a.targets.now a.database.now in
+    let width : c.in_ok-width.width.bits ≡ a.b = search rules in
+    let size : length c.place_keys.new.words ≡ a.r * a.columns =
+    c.place_keys.auto.words ∙ length-take-le _ _ (shape (goal.at.returns-clause-database_after c).Else-keys_bad).roomy in
+    built p c.place_keys.new.words (search rules) size (rw (← width) c.place_keys.ensures)

@@ -1,5 +1,5 @@
 -- Each turn sums one column more.
-use Rattle.std.proofs.Common.{ℕ, ◌-◌, ◌%◌, ◌^◌, ◌≤◌, List}
+use Rattle.std.proofs.Common.{ℕ, ◌%◌, ◌^◌, List}
 use Rattle.laws.specs.Lists.{build}
 use Rattle.laws.proofs.Filling.{Filled}
 use Rattle.builder.specs.Database.{others_sum}
@@ -9,7 +9,4 @@ abbrev pub column : ℕ → List ℕ → ℕ → List ℕ → ℕ → ℕ
 column columns ps index words j = others_sum columns words ps index j % 2 ^ 32
 
 abbrev pub invariant-loop-j : goal.invariant-loop-j
-invariant-loop-j l = (l.j ≤ l.columns) × Filled (build l.j (column l.columns l.ps l.index l.words)) l.initial.sums l.sums
-
-abbrev pub decreases-loop-j : goal.decreases-loop-j
-decreases-loop-j l = l.columns - l.j
+invariant-loop-j l = Filled (build l.j (column l.columns l.ps l.index l.words)) l.initial.sums l.sums

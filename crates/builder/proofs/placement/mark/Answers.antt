@@ -1,24 +1,19 @@
-use Rattle.std.proofs.Common.{◌≡◌, length, arith, rules}
+use Rattle.std.proofs.Common.{◌≡◌, length, arith}
 use Rattle.leaves.specs.Positions.{among}
 use Rattle.builder.proofs.placement.Marks.{marked_none, marked_more}
 use Rattle.builder.proofs.placement.mark.Goals as goal
-use Rattle.builder.proofs.placement.mark.Goals.{Start}
 
-pub loop-s-init : goal.loop-s-init
-loop-s-init c = (search rules, marked_none _ _)
+pub loop-p-init : goal.loop-p-init
+loop-p-init c = marked_none _ _
 
-pub bounds-marks-ps : goal.bounds-marks-ps
-bounds-marks-ps c =
-    omega (arith, c.requires c.loop-s.s c.loop-s-test.true, c.loop-s.invariant.1.long)
-
-pub loop-s-preserved : goal.loop-s-preserved
-loop-s-preserved c =
-    let l = c.loop-s in
-    (omega arith, marked_more c.args.ps l.s _ l.marks (c.requires l.s c.loop-s-test.true) l.invariant.1)
+pub loop-p-preserved : goal.loop-p-preserved
+loop-p-preserved c =
+    let l = c.loop-p in
+    marked_more c.args.ps l.p-index _ l.marks (c.requires l.p-index c.loop-p-test.true) l.invariant
 
 pub returns : goal.returns
 unfolding among
 returns c q =
-    let l = c.loop-s in
-    let e : l.s ≡ length c.args.ps = omega arith in
-    rw e at (l.invariant.1.marked q)
+    let l = c.loop-p in
+    let e : l.p-index ≡ length c.args.ps = omega arith in
+    rw e at (l.invariant.marked q)

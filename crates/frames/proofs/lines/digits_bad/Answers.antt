@@ -1,34 +1,29 @@
-use mathlib.Core.Path.{◌≡◌, sym, ◌∙◌}
-use Prim.Native.Nat.{◌-◌}
-use native.Mathlib.Omega.{arith}
-use lib.ListN.{length}
-use borrow.Author.Rules.{rules}
-use borrow.Author.Tests.{eq-eqb, ne_eqb}
-use Rattle.laws.proofs.Search.{some_none, some_more, some_holds}
-use Rattle.frames.specs.Lines.{digits_bad}
-use Rattle.frames.proofs.lines.digits_bad.Invariants.{none_at}
+-- The search over the elements is the definition's over their places.
+use Rattle.std.proofs.Common.{◌≡◌, ℕ, ◌-◌, Bool, eqb, List, length, get_or, take, ap, ◌∙◌, arith, rules, tests, length-take, get_or-take}
+use Rattle.std.specs.List.{list_any}
+use Rattle.std.proofs.lemmas.Iterator.{YieldsList-from_slice}
+use Rattle.std.proofs.lemmas.Iterator.Search.{any_from_yields_List}
+use Rattle.laws.specs.Search.{some}
+use Rattle.laws.proofs.Search.{list_any-some, some_ext}
+use Rattle.frames.specs.Lines.{digit_value, digits_bad}
 use Rattle.frames.proofs.lines.digits_bad.Goals as goal
-use Rattle.frames.proofs.lines.digits_bad.Goals.{In-loop-i}
 
-pub loop-i-init : goal.loop-i-init
-loop-i-init c = (search rules, some_none _)
+abbrev no_digit : ℕ → Bool
+no_digit c = eqb (digit_value c) 16
 
-pub returns-then-digit_value-eq16 : goal.returns-then-digit_value-eq16
+before_last : (line : List ℕ) → list_any no_digit (take (length line - 1) line) ≡ digits_bad line
 unfolding digits_bad
-returns-then-digit_value-eq16 c =
-    let line = c.args.line.now in
-    let e = sym c.digit_value.ensures ∙ c.if-digit_value-eq16.true in
-    sym (some_holds (none_at line) (length line - 1) c.loop-i.i c.loop-i-test.true (eq-eqb _ 16 e))
-
-pub loop-i-preserved : goal.loop-i-preserved
-loop-i-preserved c =
-    let l = c.loop-i in
-    let n = ne_eqb _ 16 (λ e. c.if-digit_value-eq16.false (c.digit_value.ensures ∙ e)) in
-    (omega arith, some_more (none_at c.args.line.now) l.i l.invariant.1 n)
+before_last line =
+    let n = length line - 1 in
+    let e : length (take n line) ≡ n = simp length-take (omega arith) in
+    list_any-some no_digit 0 (take n line)
+    ∙ ap (λ k. some k (λ i. no_digit (get_or (take n line) i 0))) e
+    ∙ some_ext (λ i. no_digit (get_or (take n line) i 0)) (λ i. no_digit (get_or line i 0)) n (λ i h. ap no_digit (get_or-take n line i 0 h))
 
 pub returns : goal.returns
-unfolding digits_bad
 returns c =
-    let l = c.loop-i in
-    let e : l.i ≡ length c.args.line.now - 1 = omega arith in
-    sym (rw e at l.invariant.1)
+    let line = c.args.line.now in
+    let any : c.any.result ≡ list_any no_digit (take (length line - 1) line) =
+    any_from_yields_List no_digit _ _ _ c.any.ensures.ran (YieldsList-from_slice (take (length line - 1) line) cc)
+    (λ x b q k. search (rules, tests)) in
+    any ∙ before_last line

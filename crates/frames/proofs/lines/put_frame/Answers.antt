@@ -3,7 +3,7 @@ use mathlib.Core.Path.{◌≡◌, refl, sym, ap, ap₂, ◌∙◌}
 use mathlib.Core.List.{List, [], ◌∷◌, ◌++◌}
 use Prim.Native.Nat.{ℕ, ◌+◌, ◌*◌, ◌-◌, ◌≤◌}
 use native.Mathlib.Omega.{arith}
-use lib.ListN.{length, set, length-append}
+use lib.ListN.{length, set, drop, length-append}
 use borrow.Rule.Slice.PartMut.{put_mid}
 use Rattle.laws.specs.Lists.{join}
 use Rattle.laws.proofs.Filling.{Filled, filled_none, part_more, one_more}
@@ -12,13 +12,12 @@ use Rattle.frames.specs.Lines.{hex, frame, line_length}
 use Rattle.frames.proofs.lines.Hex.{digits, length-hex_words}
 use Rattle.frames.proofs.lines.Frame.{frame_parts}
 use Rattle.frames.proofs.lines.put_frame.Goals as goal
-use Rattle.frames.proofs.lines.put_frame.Goals.{After-put_byte_digits, After-put_words_digits, After-put_words_digits-2, After-slice_known-4-1, Start}
 
 -- four parts, one after the other
 filled : (kind ticket : ℕ) (words old xs ys zs : List ℕ) → line_length (length words) ≤ length old
     → xs ≡ digits kind → ys ≡ hex (all_bytes (ticket ∷ 1 ∷ length words ∷ [])) → zs ≡ hex (all_bytes words)
     → let end = 26 + 8 * length words in
-    Filled (frame kind ticket words) old (set (put_mid 26 (end - 26) (put_mid 2 24 (put_mid 0 2 old xs) ys) zs) end 10)
+    Filled (frame kind ticket words) old (set (put_mid 26 (end - 26) (put_mid 2 24 (xs ++ drop 2 old) ys) zs) end 10)
 unfolding hex join
 filled kind ticket words old xs ys zs fits hx hy hz =
     let end = 26 + 8 * length words in
@@ -33,23 +32,8 @@ filled kind ticket words old xs ys zs fits hx hy hz =
     let parts = ap₂ (λ (front rest : List ℕ). (front ++ rest) ++ (10 ∷ [])) (ap₂ ◌++◌ hx hy) hz ∙ sym (frame_parts kind ticket words) in
     rw parts at (one_more ((xs ++ ys) ++ zs) 10 old _ end nxyz (omega arith) three)
 
--- once all four are written
-whole : (c : After-slice_known-4-1)
-    → let body = (goal.at.After-slice_known-4-1 c).After-put_words_digits-2 in
-    let head = (goal.at.After-slice_known-4-1 c).After-put_words_digits in
-    let kind = (goal.at.After-slice_known-4-1 c).After-put_byte_digits in
-    let a = c.args in
-    let end = 26 + 8 * length a.words.now in
-    let low = put_mid 2 24 (put_mid 0 2 a.out.now c.put_byte_digits.new.part) c.put_words_digits.new.part in
-    let all = put_mid 26 (end - 26) low c.put_words_digits-2.new.part in
-    Filled (frame a.kind a.ticket a.words.now) a.out.now (set all end 10)
-whole c =
-    let a = c.args in
-    filled a.kind a.ticket a.words.now a.out.now _ _ _ c.requires.1
-    c.put_byte_digits.ensures c.put_words_digits.ensures c.put_words_digits-2.ensures
-
-pub shape_of-out : goal.shape_of-out
-shape_of-out c = (whole c).long
-
 pub returns : goal.returns
-returns c = (whole c).laid_is
+returns c =
+    let a = c.args in
+    (filled a.kind a.ticket a.words.now a.out.now _ _ _ c.requires.1
+    c.put_byte_digits.ensures c.put_words_digits.ensures c.put_words_digits-2.ensures).laid_is

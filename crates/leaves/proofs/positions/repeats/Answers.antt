@@ -1,29 +1,22 @@
-use mathlib.Core.Path.{◌≡◌, sym}
-use native.Mathlib.Omega.{arith}
-use borrow.Author.Rules.{rules}
-use borrow.Author.Tests.{eq-eqb, ne_eqb}
+use Rattle.std.proofs.Common.{◌≡◌, ◌∙◌, sym, eqb, get_or, take, arith, rules}
+use Rattle.std.specs.List.{list_any}
 use Rattle.laws.proofs.Search.{some_none, some_more, some_holds}
-use Rattle.leaves.proofs.positions.Distinct.{same}
+use Rattle.leaves.proofs.positions.Distinct.{twice, stands_before}
 use Rattle.leaves.proofs.positions.repeats.Goals as goal
-use Rattle.leaves.proofs.positions.repeats.Goals.{In-loop-t}
 
-pub loop-t-init : goal.loop-t-init
-loop-t-init c = (search rules, some_none _)
+pub loop-s-init : goal.loop-s-init
+loop-s-init c = some_none _
 
-pub returns-then-ps-t : goal.returns-then-ps-t
-returns-then-ps-t c =
-    let a = c.args in
-    let l = c.loop-t in
-    sym (some_holds (same a.ps a.s) a.s l.t c.loop-t-test.true (eq-eqb _ _ c.if-ps-t.true))
+pub returns-then-contains : goal.returns-then-contains
+returns-then-contains c =
+    let ps = c.args.ps in
+    let s = c.loop-s.s in
+    let found : c.contains.result ≡ list_any (λ y. eqb y (get_or ps s 0)) (take s ps) = search rules in
+    sym (some_holds (twice ps) 4 s (omega arith) (sym (stands_before ps s (omega arith)) ∙ sym found ∙ c.if-contains.true))
 
-pub loop-t-preserved : goal.loop-t-preserved
-loop-t-preserved c =
-    let a = c.args in
-    let l = c.loop-t in
-    (omega arith, some_more (same a.ps a.s) l.t l.invariant.1 (ne_eqb _ _ c.if-ps-t.false))
-
-pub returns : goal.returns
-returns c =
-    let l = c.loop-t in
-    let e : l.t ≡ c.args.s = omega arith in
-    sym (rw e at l.invariant.1)
+pub loop-s-preserved : goal.loop-s-preserved
+loop-s-preserved c =
+    let ps = c.args.ps in
+    let s = c.loop-s.s in
+    let found : c.contains.result ≡ list_any (λ y. eqb y (get_or ps s 0)) (take s ps) = search rules in
+    some_more (twice ps) s c.loop-s.invariant (sym (stands_before ps s (omega arith)) ∙ sym found ∙ c.if-contains.false)

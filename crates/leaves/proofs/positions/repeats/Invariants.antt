@@ -1,13 +1,6 @@
--- None of the first t positions equals position s.
-use mathlib.Core.Path.{◌≡◌}
-use mathlib.Core.Bool.{false}
-use Prim.Native.Nat.{◌-◌, ◌≤◌}
+use Rattle.std.proofs.Common.{◌≡◌, false, eqb, get_or}
 use Rattle.laws.specs.Search.{some}
-use Rattle.leaves.proofs.positions.Distinct.{same}
 use Rattle.leaves.proofs.positions.repeats.Given as goal
 
-abbrev pub invariant-loop-t : goal.invariant-loop-t
-invariant-loop-t l = (l.t ≤ l.s) × (some l.t (same l.ps l.s) ≡ false)
-
-abbrev pub decreases-loop-t : goal.decreases-loop-t
-decreases-loop-t l = l.s - l.t
+abbrev pub invariant-loop-s : goal.invariant-loop-s
+invariant-loop-s l = some l.s (λ s. some s (λ t. eqb (get_or l.fn.ps t 0) (get_or l.fn.ps s 0))) ≡ false

@@ -1,12 +1,9 @@
 -- Each turn writes one word more.
-use Rattle.std.proofs.Common.{◌-◌, ◌≤◌, length, get_or}
+use Rattle.std.proofs.Common.{get_or}
 use Rattle.laws.specs.Lists.{join}
 use Rattle.laws.proofs.Filling.{Filled}
 use Rattle.plain.specs.Bytes.{word_bytes}
 use Rattle.plain.proofs.bytes.put_words.Given as goal
 
 abbrev pub invariant-loop-q : goal.invariant-loop-q
-invariant-loop-q l = (l.q ≤ length l.words) × Filled (join l.q (λ k. word_bytes (get_or l.words k 0))) l.initial.out l.out
-
-abbrev pub decreases-loop-q : goal.decreases-loop-q
-decreases-loop-q l = length l.words - l.q
+invariant-loop-q l = Filled (join l.q (λ k. word_bytes (get_or l.words k 0))) l.initial.out l.out

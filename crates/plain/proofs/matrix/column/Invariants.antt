@@ -1,12 +1,7 @@
--- Each turn stores one word more.
-use Rattle.std.proofs.Common.{◌-◌, ◌≤◌, length}
-use Rattle.laws.specs.Lists.{build}
-use Rattle.laws.proofs.Filling.{Filled}
+-- Each word moved so far.
+use Rattle.std.proofs.Common.{◌≡◌, ℕ, ◌<◌, get_or}
 use Rattle.plain.specs.Matrix.{cell}
 use Rattle.plain.proofs.matrix.column.Given as goal
 
 abbrev pub invariant-loop-i : goal.invariant-loop-i
-invariant-loop-i l = (l.i ≤ length l.initial.out) × Filled (build l.i (λ k. cell l.c l.words k l.j)) l.initial.out l.out
-
-abbrev pub decreases-loop-i : goal.decreases-loop-i
-decreases-loop-i l = length l.initial.out - l.i
+invariant-loop-i l = (k : ℕ) → k < l.i → get_or l.out k 0 ≡ cell l.matrix.columns l.matrix.words.now k l.j

@@ -1,70 +1,74 @@
-use mathlib.Core.Path.{◌≡◌, sym, ap, ◌∙◌}
-use mathlib.Core.List.{List}
-use Prim.Native.Nat.{ℕ, ◌+◌, ◌*◌, ◌≤◌}
-use native.Mathlib.Omega.{arith}
-use lib.ListN.{length}
-use borrow.Author.Rules.{rules}
-use Rattle.laws.proofs.Lists.{room, row_lent, length-row, length-build}
+use Rattle.std.proofs.Common.{◌≡◌, ℕ, ◌+◌, ◌-◌, ◌*◌, ◌<◌, ◌≤◌, List, ◌∷◌, ◌++◌, length, get_or, take, drop, sym, ap, ◌∙◌, inl, inr, arith, zero-mul, length-drop}
+use native.Mathlib.Decide.{dec_lt}
+use lib.Seq.{get_or-drop}
+use Rattle.std.proofs.lemmas.List.{drop-drop, drop_at, take_at, length_push}
+use Rattle.laws.specs.Lists.{row}
+use Rattle.laws.proofs.Lists.{room}
 use Rattle.queries.proofs.open.Noise.{none_added, row_added, all_added}
 use Rattle.queries.proofs.open.add_product.Goals as goal
-use Rattle.queries.proofs.open.add_product.Goals.{In-loop-i, Start}
 
--- in a turn: row i has its place in the matrix, and the sums have their length
-module _ (k : In-loop-i) where
-  abbrev i : ℕ
-  i = k.loop-i.i
+-- what a turn takes from the words and the rows that are left: word n, and row n
+module _ (n r : ℕ) (s m : List ℕ) where
+  pub record Taken (x : ℕ) (words ys left : List ℕ) : Type 0 where
+    pub inside : n < length s
+    pub word : x ≡ get_or s n 0
+    pub words_left : words ≡ drop (n + 1) s
+    pub row_is : ys ≡ row r m n
+    pub rows_left : left ≡ drop ((n + 1) * r) m
 
-  abbrev r : ℕ
-  r = length k.args.error.now
+  took : (x : ℕ) (words ys left : List ℕ) → drop n s ≡ x ∷ words → drop (n * r) m ≡ ys ++ left → length ys ≡ r → Taken x words ys left
+  took x words ys left p q long =
+      let next : n * r + r ≡ (n + 1) * r = omega arith in
+      let none : n + 0 ≡ n = omega arith in
+      record {
+        inside = omega (arith, ap length p, length-drop n s);
+        word = ap (λ l. get_or l 0 0) (sym p) ∙ get_or-drop n s 0 0 ∙ ap (λ (k : ℕ). get_or s k 0) none;
+        words_left = ap (drop 1) (sym p) ∙ drop-drop 1 n s;
+        row_is = sym (take_at ys left r long) ∙ ap (take r) (sym q);
+        rows_left = sym (drop_at ys left r long) ∙ ap (drop r) (sym q) ∙ drop-drop r (n * r) m ∙ ap (λ (k : ℕ). drop k m) next;
+      }
 
-  abbrev matrix : List ℕ
-  matrix = k.args.matrix.now
+-- less than a row is left: all rows came
+all_came : (n r k : ℕ) → n ≤ k → k * r - n * r < r → n ≡ k
+all_came n r k h e = elim (dec_lt n k) [ yes l ↦ absurd (omega (arith, room n k r l)) | no g ↦ omega arith ]
 
-  row_in : i * r + r ≤ length matrix
-  row_in = omega (arith, room i (length k.args.secret.now) r k.loop-i-test.true, k.requires.matrix_len)
-
-  long : length k.loop-i.error ≡ r
-  long = ap length k.loop-i.invariant.1 ∙ length-build r _
-
-pub loop-i-init : goal.loop-i-init
-loop-i-init c =
-    let a = c.args in
-    (search rules, none_added a.secret.now a.matrix.now a.error.now (λ j. omega (arith, c.slice_known-1.given j)))
-
-pub overflow_mul-start : goal.overflow_mul-start
-overflow_mul-start c = omega (arith, row_in c)
-
-pub overflow_add-end : goal.overflow_add-end
-overflow_add-end c = omega (arith, row_in c)
-
-pub offset_bounds-matrix-start : goal.offset_bounds-matrix-start
-offset_bounds-matrix-start c = omega (arith, row_in (goal.at.offset_bounds-matrix-start c).In-loop-i)
-
-pub slice_bounds-add_row-end : goal.slice_bounds-add_row-end
-slice_bounds-add_row-end c = row_in (goal.at.slice_bounds-add_row-end c).In-loop-i
-
-pub add_row-requires : goal.add_row-requires
-add_row-requires c =
-    let k = (goal.at.add_row-requires c).In-loop-i in
-    ap length (row_lent (r k) (i k) (matrix k))
-    ∙ length-row (r k) (length c.args.secret.now) (i k) (matrix k) (omega (arith, c.requires.matrix_len)) c.loop-i-test.true
-    ∙ sym (long k)
-
-pub loop-i-preserved : goal.loop-i-preserved
-loop-i-preserved c =
-    let k = (goal.at.loop-i-preserved c).In-loop-i in
+pub loop-x-init : goal.loop-x-init
+loop-x-init c =
     let a = c.args in (
       omega arith,
-      c.add_row.ensures
-          ∙ row_added a.secret.now a.matrix.now a.error.now (r k) (i k) _ _ c.loop-i.invariant.1 (row_lent (r k) (i k) (matrix k)),
+      cc,
+      cc,
+      rw (zero-mul (length a.error.now)) (cc),
+      none_added a.secret.now a.matrix.now a.error.now (λ j. omega (arith, c.type_inv.error j)),
     )
 
-pub shape_of-error : goal.shape_of-error
-shape_of-error c = ap length c.loop-i.invariant.1 ∙ length-build _ _
+pub loop-x-preserved : goal.loop-x-preserved
+loop-x-preserved c =
+    let a = c.args in
+    let i = c.loop-x.invariant in
+    let n = length c.loop-x.yielded in
+    let r = length a.error.now in
+    let h = c.in-Some.ensures.steps in
+    let t = took n r a.secret.now a.matrix.now _ _ _ _ (sym i.1 ∙ h.0) (sym i.3 ∙ h.1.1.0) (h.1.1.1 ∙ i.2) in
+    rw (length_push c.loop-x.yielded (c.in-Some.x, c.in-Some.row)) (
+      omega (arith, t.inside),
+      t.words_left,
+      h.1.0 ∙ i.2,
+      t.rows_left,
+      (rw t.word at c.add_row.ensures)
+          ∙ row_added a.secret.now a.matrix.now a.error.now r n _ _ i.4 t.row_is,
+    )
 
 pub returns : goal.returns
 returns c =
     let a = c.args in
-    let l = c.loop-i in
-    let e : l.i ≡ length a.secret.now = omega arith in
-    (rw e at l.invariant.1) ∙ all_added a.secret.now a.matrix.now a.error.now (length a.secret.now) (length a.error.now)
+    let i = c.loop-x.invariant in
+    let n = length c.loop-x.yielded in
+    let r = length a.error.now in
+    let k = length a.secret.now in
+    let e : n ≡ k =
+    elim c.in-None.ensures.steps [
+      | inl p ↦ omega (arith, ap length i.1, length-drop n a.secret.now, p.1.0)
+      | inr p ↦ all_came n r k i.0 (omega (arith, ap length i.3, length-drop (n * r) a.matrix.now, p.1.1.0, i.2))
+    ] in
+    (rw e at i.4) ∙ all_added a.secret.now a.matrix.now a.error.now k r

@@ -1,81 +1,50 @@
-use mathlib.Core.Path.{◌≡◌, ap, ◌∙◌}
-use Prim.Native.Nat.{ℕ, ◌<◌}
-use native.Mathlib.Omega.{arith}
-use lib.ListN.{length, get_or}
-use borrow.Author.Rules.{rules}
-use Rattle.laws.proofs.Lists.{length-build}
+use Rattle.std.proofs.Common.{◌≡◌, ℕ, ◌<◌, length, get_or, arith, ap, ◌∙◌}
 use Rattle.leaves.proofs.positions.Distinct.{below}
 use Rattle.leaves.specs.Rounding.{delta}
-use Rattle.queries.proofs.open.Marks.{delta_is, no_wrap, none_marked, entry_kept, one_marked, all_marked}
+use Rattle.queries.proofs.open.Marks.{no_wrap, none_marked, entry_kept, one_marked, all_marked}
 use Rattle.queries.proofs.open.mark.Goals as goal
-use Rattle.queries.proofs.open.mark.Goals.{After-calculate_query_indicator-delta, In-loop-s, Start}
+use Rattle.queries.proofs.open.mark.Goals.{In-loop-p}
 
--- the code's Δ
-indicator : (c : After-calculate_query_indicator-delta) → c.calculate_query_indicator-delta.result ≡ delta c.args.b
-indicator c =
-    (delta_is c.args.b c.requires.le_b.0 c.requires.le_b.1 _ c.calculate_query_indicator-delta.ensures).0
-
--- in a turn: position s lies inside the query, and its entry plus Δ fits
-module _ (k : In-loop-s) where
-  abbrev s : ℕ
-  s = k.loop-s.s
-
+-- in a turn: the position lies inside the query, whose entry there is as it was
+module _ (k : In-loop-p) where
   abbrev at : ℕ
-  at = get_or k.args.positions s 0
-
-  counted : s < length k.args.positions
-  counted = omega arith
+  at = get_or k.args.positions k.loop-p.p-index 0
 
   inside : at < length k.args.query.now
-  inside = below (length k.args.query.now) k.args.positions k.requires.le_b.2 s counted
+  inside = below (length k.args.query.now) k.args.positions k.requires.positions_value k.loop-p.p-index (omega arith)
 
-  written : at < length k.loop-s.query
-  written = rw (ap length k.loop-s.invariant.1 ∙ length-build (length k.args.query.now) _) inside
-
-  kept : get_or k.loop-s.query at 0 ≡ get_or k.args.query.now at 0
+  kept : get_or k.loop-p.query at 0 ≡ get_or k.args.query.now at 0
   kept =
-      ap (λ xs. get_or xs at 0) k.loop-s.invariant.1
-      ∙ entry_kept (delta k.args.b) k.args.positions k.args.query.now k.requires.le_b.2 s counted
+      ap (λ xs. get_or xs at 0) k.loop-p.invariant
+      ∙ entry_kept (delta k.args.width.bits) k.args.positions k.args.query.now k.requires.positions_value k.loop-p.p-index (omega arith)
 
-pub loop-s-init : goal.loop-s-init
-loop-s-init c =
-    let a = c.args in
-    (search rules, none_marked (delta a.b) a.positions a.query.now)
+pub loop-p-init : goal.loop-p-init
+loop-p-init c = none_marked (delta c.args.width.bits) c.args.positions c.args.query.now
 
-pub offset_bounds-query-at : goal.offset_bounds-query-at
-offset_bounds-query-at c = omega (arith, inside c)
-
-pub bounds-query-at : goal.bounds-query-at
-bounds-query-at c = written (goal.at.bounds-query-at c).In-loop-s
+pub bounds-query-p : goal.bounds-query-p
+bounds-query-p c = omega (arith, inside (goal.at.bounds-query-p c).In-loop-p)
 
 pub overflow_add-query : goal.overflow_add-query
 overflow_add-query c =
-    let k = (goal.at.overflow_add-query c).In-loop-s in
     let a = c.args in
-    omega (arith, kept k, indicator (goal.at.overflow_add-query c).After-calculate_query_indicator-delta, no_wrap a.b a.positions a.query.now c.requires.query_value (s k) (counted k))
-
-pub offset_bounds-query-at-in-loop-s : goal.offset_bounds-query-at-in-loop-s
-offset_bounds-query-at-in-loop-s c = omega (arith, inside (goal.at.offset_bounds-query-at-in-loop-s c).In-loop-s)
-
-pub bounds-query-at-in-loop-s : goal.bounds-query-at-in-loop-s
-bounds-query-at-in-loop-s c = written (goal.at.bounds-query-at-in-loop-s c).In-loop-s
-
-pub loop-s-preserved : goal.loop-s-preserved
-loop-s-preserved c =
-    let k = (goal.at.loop-s-preserved c).In-loop-s in
-    let a = c.args in
-    let d = delta a.b in (
-      omega arith,
-      rw (indicator (goal.at.loop-s-preserved c).After-calculate_query_indicator-delta, c.loop-s.invariant.1)
-          (one_marked d a.positions a.query.now c.requires.le_b.2 (s k) (counted k)),
+    omega (
+      arith,
+      kept (goal.at.overflow_add-query c).In-loop-p,
+      no_wrap a.width.bits a.positions a.query.now c.requires.query_value c.loop-p.p-index (omega arith),
     )
 
-pub shape_of-query : goal.shape_of-query
-shape_of-query c = ap length c.loop-s.invariant.1 ∙ length-build _ _
+pub bounds-query-p-in-loop-p : goal.bounds-query-p-in-loop-p
+bounds-query-p-in-loop-p c = omega (arith, inside (goal.at.bounds-query-p-in-loop-p c).In-loop-p)
+
+pub loop-p-preserved : goal.loop-p-preserved
+loop-p-preserved c =
+    let a = c.args in
+    rw (c.delta-delta.ensures, c.loop-p.invariant)
+    (one_marked (delta a.width.bits) a.positions a.query.now c.requires.positions_value c.loop-p.p-index (omega arith))
 
 pub returns : goal.returns
 returns c =
     let a = c.args in
-    let l = c.loop-s in
-    let e : l.s ≡ length a.positions = omega arith in
-    (rw e at l.invariant.1) ∙ all_marked a.b a.positions a.query.now
+    let l = c.loop-p in
+    let e : l.p-index ≡ length a.positions = omega arith in
+    (rw e at l.invariant) ∙ all_marked a.width.bits a.positions a.query.now

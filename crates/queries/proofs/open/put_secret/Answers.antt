@@ -1,32 +1,11 @@
 -- The slot's words have their place inside the slab, and the product fills them.
-use mathlib.Core.Path.{◌≡◌, sym, ap, ◌∙◌}
-use mathlib.Core.List.{List}
-use Prim.Native.Nat.{ℕ, ◌+◌, ◌*◌, ◌-◌, ◌≤◌}
-use native.Mathlib.Omega.{arith}
-use lib.ListN.{length}
+use Rattle.std.proofs.Common.{◌≡◌, ℕ, ◌+◌, ◌*◌, ◌-◌, ◌≤◌, List, length, sym, ap, ◌∙◌, arith}
 use Rattle.laws.specs.Lists.{part, splice}
-use Rattle.laws.proofs.Lists.{room, length-row, row_lent}
+use Rattle.laws.proofs.Lists.{length-row, row_lent}
 use Rattle.laws.proofs.Filling.{put_splice}
 use Rattle.plain.proofs.matrix.Cells.{length-product}
 use Rattle.queries.proofs.open.Kept.{stored_made}
 use Rattle.queries.proofs.open.put_secret.Goals as goal
-use Rattle.queries.proofs.open.put_secret.Goals.{Start}
-
--- the slot's words
-in_slab : (st : Start) → let a = st.args in a.slot * a.columns + a.columns ≤ length a.slab.now
-in_slab st = let a = st.args in omega (arith, room a.slot 64 a.columns st.requires.in_bounds.4, st.requires.hint_len.1)
-
-pub overflow_mul-start : goal.overflow_mul-start
-overflow_mul-start c = omega (arith, in_slab (goal.at.overflow_mul-start c).Start)
-
-pub overflow_add-end : goal.overflow_add-end
-overflow_add-end c = omega (arith, in_slab (goal.at.overflow_add-end c).Start)
-
-pub offset_bounds-slab-start : goal.offset_bounds-slab-start
-offset_bounds-slab-start c = omega (arith, in_slab (goal.at.offset_bounds-slab-start c).Start)
-
-pub slice_bounds-plain_product-end : goal.slice_bounds-plain_product-end
-slice_bounds-plain_product-end c = in_slab (goal.at.slice_bounds-plain_product-end c).Start
 
 pub returns : goal.returns
 returns c =

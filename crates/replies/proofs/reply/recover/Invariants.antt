@@ -1,5 +1,5 @@
 -- Each turn stores one element more.
-use Rattle.std.proofs.Common.{ℕ, ◌+◌, ◌-◌, ◌%◌, ◌^◌, ◌≤◌, List, length, get_or}
+use Rattle.std.proofs.Common.{ℕ, ◌+◌, ◌%◌, ◌^◌, List, get_or}
 use Rattle.laws.specs.Lists.{build}
 use Rattle.laws.proofs.Filling.{Filled}
 use Rattle.leaves.specs.Rounding.{rounded}
@@ -12,7 +12,4 @@ element b secret response masks j =
     (rounded b (less_word (get_or response j 0) (get_or secret j 0)) + get_or masks j 0) % 2 ^ b
 
 abbrev pub invariant-loop-j : goal.invariant-loop-j
-invariant-loop-j l = (l.j ≤ length l.initial.row) × Filled (build l.j (element l.b l.secret l.response l.masks)) l.initial.row l.row
-
-abbrev pub decreases-loop-j : goal.decreases-loop-j
-decreases-loop-j l = length l.initial.row - l.j
+invariant-loop-j l = Filled (build l.j (element l.width.bits l.secret l.response l.masks)) l.initial.row l.row

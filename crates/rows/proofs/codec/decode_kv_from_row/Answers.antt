@@ -1,128 +1,72 @@
--- The refusals in 01's order, and then the digest and the value, each into the start of its output.
-use mathlib.Core.Path.{◌≡◌, refl, sym, ap, ap₂, ◌∙◌}
-use mathlib.Core.List.{List, []}
-use Prim.Native.Nat.{ℕ, ◌+◌, ◌-◌, ◌≤◌}
-use native.Mathlib.Nat.{le_refl}
-use native.Mathlib.Omega.{arith}
-use lib.ListN.{length, take, length-take}
-use borrow.Rule.Slice.PartMut.{put_mid}
+-- Digest and value are written over the starts of their outputs.
+use Rattle.std.proofs.Common.{◌≡◌, ℕ, ◌+◌, ◌-◌, ◌<◌, ◌≤◌, false, List, ◌++◌, length, take, drop, sym, ap, ◌∙◌, arith, rules, length-take}
 use Rattle.laws.specs.Lists.{part, laid}
 use Rattle.laws.proofs.Lists.{length_part}
-use Rattle.laws.proofs.Filling.{filled_none, part_more}
-use Rattle.laws.proofs.Refusals.{kept, written}
-use Rattle.rows.specs.Codec.{bytes_in, bytes_of, value_length, decode_number, decode_length}
-use Rattle.answers.specs.Codec.{decoding_number, decoding_length}
-use Rattle.answers.proofs.Refusing.{decoding_refusing}
-use Rattle.rows.proofs.codec.Answers.{Read, accepted}
-use Rattle.rows.proofs.codec.Bytes.{length_bytes, last_le}
+use Rattle.laws.proofs.Refusals.{written}
+use Rattle.rows.specs.Codec.{bytes_in, bytes_of, marker_at, marker_bad, reader_bad, decode_number}
+use Rattle.rows.proofs.codec.Answers.{Lent, lent}
+use Rattle.rows.proofs.codec.Bytes.{front, length_bytes}
 use Rattle.rows.proofs.codec.decode_kv_from_row.Goals as goal
-use Rattle.rows.proofs.codec.decode_kv_from_row.Goals.{After-read_bytes, After-read_bytes-2, In-Value, Start}
+use Rattle.rows.proofs.codec.decode_kv_from_row.Goals.{Else-reader_bad, In_ok-n}
 
--- an answer that is a length: the row was taken, and both parts have their places in its bytes and in the outputs
-module _ (c : In-Value) where
-  abbrev n : ℕ
-  n = c.in-Value.n
+-- the outputs have room, and the row is whole
+shape : (c : Else-reader_bad)
+    → let a = c.args in Lent a.b a.columns (length a.row.now) (length a.digest.now) (length a.value.now)
+shape c = lent _ _ _ _ _ (sym c.if-reader_bad.ensures)
+
+-- what is read is what was asked for, in its output's place
+placed : (bytes old ys : List ℕ) (from d : ℕ) → d ≤ length old → from + d ≤ length bytes
+    → ys ≡ part from (length (take d old)) bytes → ys ++ drop d old ≡ laid (part from d bytes) old
+placed bytes old ys from d h k e =
+    let n : length (take d old) ≡ d = omega (arith, length-take d old) in
+    let f : ys ≡ part from d bytes = e ∙ ap (λ m. part from m bytes) n in
+    front d ys old (ap length f ∙ length_part from d bytes k) ∙ ap (λ l. laid l old) f
+
+module _ (c : In_ok-n) where
+  room : let a = c.args in Lent a.b a.columns (length a.row.now) (length a.digest.now) (length a.value.now)
+  room = shape (goal.at.In_ok-n c).Else-reader_bad
+
+  same_width : c.in_ok-width.width.bits ≡ c.args.b
+  same_width = search rules
+
+  found : let at = c.in_ok-n.field-0 in let a = c.args in
+      (32 ≤ at) × (at < bytes_in a.b a.columns) × (at ≡ marker_at a.b a.columns a.row.now) × (marker_bad a.b a.columns a.row.now ≡ false)
+  found = rw (← same_width, ← room.whole) (search rules)
 
   none : let a = c.args in decode_number a.b a.columns a.row.now (length a.digest.now) (length a.value.now) ≡ 0
-  none = sym c.read_refusal-answer.ensures.number ∙ ap decoding_number c.in-Value.is
+  unfolding decode_number reader_bad
+  none = search rules
 
-  number : let a = c.args in n ≡ decode_length a.b a.columns a.row.now (length a.digest.now) (length a.value.now)
-  number = sym (ap decoding_length c.in-Value.is) ∙ c.read_refusal-answer.ensures.length
+pub slice_bounds-read-end-2 : goal.slice_bounds-read-end-2
+slice_bounds-read-end-2 c =
+    omega (arith, length-take 32 c.args.digest.now, (shape (goal.at.slice_bounds-read-end-2 c).Else-reader_bad).digest_room)
 
-  long : let a = c.args in n ≡ value_length a.b a.columns a.row.now
-  long = number ∙ sym (written _ _ _ none)
+pub read-requires : goal.read-requires
+read-requires c =
+    let s = shape (goal.at.read-requires c).Else-reader_bad in
+    let b : c.in_ok-width.width.bits ≡ c.args.b = search rules in
+    rw (b, s.whole) (omega (arith, length-take 32 c.args.digest.now, s.size.bytes_least))
 
-  found : let a = c.args in Read a.b a.columns a.row.now (length a.digest.now) (length a.value.now)
-  found = accepted _ _ _ _ _ none
-
-  readable : (4 ≤ c.args.b) × (c.args.b ≤ 14) × (length c.args.row.now ≤ 512)
-  readable = (found.width_least, found.width_most, omega (arith, found.shape.whole, found.shape.size.most))
-
-  in_bytes : 33 + n ≤ bytes_in c.args.b c.args.columns
-  in_bytes =
-      let a = c.args in
-      omega (arith, long, found.marker_place, last_le (bytes_of a.b a.columns a.row.now) (bytes_in a.b a.columns))
-
-  in_row : 33 + n ≤ bytes_in c.args.b (length c.args.row.now)
-  in_row = rw found.shape.whole in_bytes
-
-  in_value : n ≤ length c.args.value.now
-  in_value = omega (arith, in_bytes, found.shape.value_room)
-
-  in_digest : 32 ≤ length c.args.digest.now
-  in_digest = found.shape.digest_room
-
-  -- the first d bytes of an output that are lent, and the bytes of the row from `from` on that come back in their place
-  module _ (from d : ℕ) (old : List ℕ) (fits : d ≤ length old) (inside : from + d ≤ 32 + n) where
-    lent_length : length (take (d - 0) old) ≡ d
-    lent_length = omega (arith, length-take (d - 0) old)
-
-    asked : from + length (take (d - 0) old) ≤ bytes_in c.args.b (length c.args.row.now)
-    asked = omega (arith, lent_length, in_row)
-
-    placed : (ys : List ℕ)
-        → ys ≡ part from (length (take (d - 0) old)) (bytes_of c.args.b (length c.args.row.now) c.args.row.now)
-        → put_mid 0 (d - 0) old ys ≡ laid (part from d (bytes_of c.args.b c.args.columns c.args.row.now)) old
-    placed ys e =
-        let a = c.args in
-        let bytes = bytes_of a.b a.columns a.row.now in
-        let f : ys ≡ part from d bytes =
-        e ∙ ap₂ (λ (k m : ℕ). part from k (bytes_of a.b m a.row.now)) lent_length found.shape.whole in
-        let g : from + d ≤ length bytes = omega (arith, in_bytes, length_bytes a.b a.columns a.row.now) in
-        let h : length ys ≡ d - 0 = ap length f ∙ length_part from d bytes g ∙ omega arith in
-        (part_more [] ys old old 0 (d - 0) refl h (omega arith) (filled_none old)).laid_is ∙ ap (λ l. laid l old) f
-
-pub returns-in_default : goal.returns-in_default
-returns-in_default c =
-    let r = c.read_refusal-answer in
-    let e = r.ensures.number in
-    let l = rw e at (decoding_refusing r.result c.in_default.not-Value) in
-    record {
-      number = e;
-      length = r.ensures.length;
-      digest_after = kept _ _ _ l;
-      value_after = kept _ _ _ l;
-    }
-
-pub slice_bounds-read_bytes-end : goal.slice_bounds-read_bytes-end
-slice_bounds-read_bytes-end c = (found (goal.at.slice_bounds-read_bytes-end c).In-Value).shape.digest_room
-
-pub read_bytes-requires : goal.read_bytes-requires
-read_bytes-requires c =
-    let an = (goal.at.read_bytes-requires c).In-Value in
-    record {
-      le_b = readable an;
-      out_bound = asked an 0 32 c.args.digest.now (in_digest an) (omega arith);
-    }
-
-pub slice_bounds-read_bytes-end-2 : goal.slice_bounds-read_bytes-end-2
-slice_bounds-read_bytes-end-2 c = in_value (goal.at.slice_bounds-read_bytes-end-2 c).In-Value
-
-pub read_bytes-requires-2 : goal.read_bytes-requires-2
-read_bytes-requires-2 c =
-    let an = (goal.at.read_bytes-requires-2 c).In-Value in
-    record {
-      le_b = readable an;
-      out_bound = asked an 32 (n an) c.args.value.now (in_value an) (omega arith);
-    }
-
-pub returns : goal.returns
-returns c =
-    let k = (goal.at.returns c).After-read_bytes in
-    let an = (goal.at.returns c).In-Value in
+pub returns-clause-digest_after : goal.returns-clause-digest_after
+returns-clause-digest_after c =
+    let n = (goal.at.returns-clause-digest_after c).In_ok-n in
     let a = c.args in
-    let z = none an in
-    let first : 0 + 32 ≤ 32 + n an = omega arith in
-    let digest =
-    placed an 0 32 a.digest.now (in_digest an) first _ c.read_bytes.ensures
-    ∙ written _ _ _ z in
-    let value =
-    placed an 32 (n an) a.value.now (in_value an) (le_refl _) _ c.read_bytes-2.ensures
-    ∙ ap (λ (k : ℕ). laid (part 32 k (bytes_of a.b a.columns a.row.now)) a.value.now) (long an)
-    ∙ written _ _ _ z in
-    record {
-      number = sym z;
-      length = number an;
-      digest_after = digest;
-      value_after = value;
-    }
+    let s = room n in
+    let e = rw (same_width n, s.whole) at c.read.ensures in
+    let bytes = bytes_of a.b a.columns a.row.now in
+    let k : 0 + 32 ≤ length bytes = omega (arith, length_bytes a.b a.columns a.row.now, s.size.bytes_least) in
+    placed bytes a.digest.now _ 0 32 s.digest_room k e ∙ written _ _ _ (none n)
+
+pub returns-clause-value_after : goal.returns-clause-value_after
+returns-clause-value_after c =
+    let n = (goal.at.returns-clause-value_after c).In_ok-n in
+    let a = c.args in
+    let s = room n in
+    let f = found n in
+    let d : ℕ = c.in_ok-n.field-0 - 32 in
+    let e = rw (same_width n, s.whole) at c.read-2.ensures in
+    let bytes = bytes_of a.b a.columns a.row.now in
+    let k : 32 + d ≤ length bytes = omega (arith, length_bytes a.b a.columns a.row.now, f.0, f.1) in
+    placed bytes a.value.now _ 32 d (omega (arith, s.value_room, f.1)) k e
+    ∙ ap (λ at. laid (part 32 (at - 32) bytes) a.value.now) f.2
+    ∙ written _ _ _ (none n)

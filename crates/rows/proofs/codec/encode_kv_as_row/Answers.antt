@@ -1,40 +1,24 @@
--- The refusals in 01's order, and then the row.
-use mathlib.Core.Path.{◌≡◌, sym, ap, ◌∙◌}
-use lib.ListN.{length}
-use Rattle.laws.proofs.Refusals.{inside, kept, written}
-use Rattle.rows.specs.Codec.{encode_number}
-use Rattle.answers.specs.Codec.{encoding_number}
+-- The row is written over the start of the output.
+use Rattle.std.proofs.Common.{◌≡◌, ℕ, length, take, sym, ap, ap₂, ◌∙◌, arith, rules, length-take}
+use Rattle.laws.specs.Lists.{laid}
+use Rattle.laws.proofs.Refusals.{written}
+use Rattle.rows.specs.Codec.{room_of, row_of, encode_number}
 use Rattle.rows.proofs.codec.Sizes.{sized}
-use Rattle.answers.proofs.Refusing.{encoding_refusing}
-use Rattle.rows.proofs.codec.Answers.{taken}
+use Rattle.rows.proofs.codec.Bytes.{front, length_row}
 use Rattle.rows.proofs.codec.encode_kv_as_row.Goals as goal
-use Rattle.rows.proofs.codec.encode_kv_as_row.Goals.{In-Done}
-
-none : (c : In-Done)
-    → let a = c.args in encode_number a.b a.columns (length a.value.now) (length a.out.now) ≡ 0
-none c = sym c.encode_refusal-answer.ensures ∙ ap encoding_number c.in-Done.is
-
-pub returns-in_default : goal.returns-in_default
-returns-in_default c =
-    let r = c.encode_refusal-answer in
-    record {
-      number = r.ensures;
-      out_after = kept _ _ _ (rw r.ensures at (encoding_refusing r.result c.in_default.not-Done));
-    }
 
 pub write_row-requires : goal.write_row-requires
 write_row-requires c =
-    let a = c.args in
-    let t = taken a.b a.columns (length a.value.now) (length a.out.now) (none (goal.at.write_row-requires c).In-Done) in
-    record {
-      b_bound = ((inside 4 14 a.b t.width_in).1, (sized a.b a.columns t.columns_in).most);
-      columns_in_bounds = t.roomy;
-    }
+    omega (arith, length-take c.args.columns c.args.out.now, (sized c.args.b c.args.columns (sym c.if-columns_bad.ensures)).most)
 
-pub returns : goal.returns
-returns c =
-    let z = none (goal.at.returns c).In-Done in
-    record {
-      number = sym z;
-      out_after = c.write_row.ensures ∙ written _ _ _ z;
-    }
+pub returns-clause-out_after : goal.returns-clause-out_after
+unfolding encode_number room_of
+returns-clause-out_after c =
+    let a = c.args in
+    let n : length (take a.columns a.out.now) ≡ a.columns = omega (arith, length-take a.columns a.out.now) in
+    let b : c.in_ok-width.width.bits ≡ a.b = search rules in
+    let e = c.write_row.ensures ∙ ap₂ (λ (w k : ℕ). row_of w k a.digest a.value.now) b n in
+    let z : encode_number a.b a.columns (length a.value.now) (length a.out.now) ≡ 0 = search rules in
+    front a.columns _ a.out.now (ap length e ∙ length_row a.b a.columns a.digest a.value.now)
+    ∙ ap (λ l. laid l a.out.now) e
+    ∙ written _ _ _ z

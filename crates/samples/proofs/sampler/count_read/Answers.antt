@@ -1,54 +1,66 @@
-use mathlib.Core.Path.{◌≡◌, refl, sym, ap, ◌∙◌}
-use Prim.Native.Nat.{ℕ, ◌+◌, ◌<◌, ◌≤◌}
-use native.Mathlib.Omega.{arith}
-use lib.ListN.{length, take}
-use lib.Seq.{take_all}
-use borrow.Author.Rules.{rules}
-use borrow.Author.Tests.{lt-ltb, lt-leb}
+use Rattle.std.proofs.Common.{◌≡◌, ◌≤◌, length, take, refl, sym, ap, ◌∙◌, take_all, arith, lt-ltb, le-leb}
+use borrow.Author.Tests.{lt-leb}
 use Rattle.laws.proofs.Search.{some_none, some_more}
-use Rattle.samples.specs.Sampler.{given, holds_enough, too_few}
-use Rattle.samples.proofs.sampler.Given.{given_skip, length_more}
+use Rattle.samples.specs.Sampler.{accepted, given, holds_enough, too_few}
+use Rattle.samples.proofs.sampler.Given.{length-given_more}
 use Rattle.samples.proofs.sampler.Shortest.{shortest_is, enough_given}
 use Rattle.samples.proofs.sampler.count_read.Goals as goal
-use Rattle.samples.proofs.sampler.count_read.Goals.{then-words-seen, else-words-seen}
+use Rattle.samples.proofs.sampler.count_read.Goals.{then-x-greatest, else-x-greatest}
 
-pub loop-got-init : goal.loop-got-init
+pub loop-seen-init : goal.loop-seen-init
 unfolding given
-loop-got-init c = (search rules, refl, some_none _)
+loop-seen-init c = (refl, omega arith, some_none _)
 
-pub returns-then-seen-words : goal.returns-then-seen-words
-unfolding too_few
-returns-then-seen-words c =
+pub returns-then-got-wanted : goal.returns-then-got-wanted
+returns-then-got-wanted c =
     let a = c.args in
-    let l = c.loop-got in
-    let all : l.got ≡ length (given a.interval a.words.now) =
-    l.invariant.1 ∙ ap (λ xs. length (given a.interval xs)) (take_all l.seen a.words.now (omega arith)) in
-    record {
-      number = simp (lt-ltb (length (given a.interval a.words.now)) a.wanted (omega (arith, all)));
-      read = refl;
+    let l = c.loop-seen in
+    let w = a.words.now in
+    let holds : a.wanted ≤ length (given a.interval (take l.seen w)) = omega (arith, l.invariant.0) in record {
+      number = simp (enough_given a.interval a.wanted w l.seen holds);
+      read = sym (shortest_is a.interval a.wanted w l.seen l.auto.seen-end l.invariant.2 holds);
     }
 
-pub loop-got-preserved : goal.loop-got-preserved
-unfolding holds_enough
-loop-got-preserved c =
+pub overflow_add-got : goal.overflow_add-got
+overflow_add-got c = omega (arith, c.loop-seen.invariant.1)
+
+pub loop-seen-preserved : goal.loop-seen-preserved
+unfolding holds_enough accepted
+loop-seen-preserved c =
     let a = c.args in
-    let l = c.loop-got in
+    let l = c.loop-seen in
     let w = a.words.now in
-    let inside : l.seen < length w = omega arith in
-    let got : c.if-words-seen.got ≡ length (given a.interval (take (l.seen + 1) w)) =
-    elim c.if-words-seen.branch [
-      | then-words-seen t ↦ t.got-is ∙ ap (λ (n : ℕ). n + 1) l.invariant.1 ∙ sym (length_more a.interval w l.seen inside t.if-words-seen.true)
-      | else-words-seen t ↦ t.got-is ∙ l.invariant.1 ∙ sym (ap length (given_skip a.interval w l.seen inside t.if-words-seen.false))
-    ] in
-    let few = lt-leb a.wanted (length (given a.interval (take l.seen w))) (omega (arith, l.invariant.1)) in
-    (omega arith, got, some_more (holds_enough a.interval a.wanted w) l.seen l.invariant.2 few)
+    let more = length-given_more a.interval l.seen w c.loop-seen-test.true in
+    let few = lt-leb a.wanted (length (given a.interval (take l.seen w))) (omega (arith, l.invariant)) in
+    let none = some_more (holds_enough a.interval a.wanted w) l.seen l.invariant.2 few in
+    elim c.if-x-greatest.branch [
+      | then-x-greatest t ↦
+          let one = rw (le-leb _ _ t.if-x-greatest.true) at more in
+          (omega (arith, t.got-is, one, l.invariant.0), omega (arith, t.got-is, l.invariant), none)
+      | else-x-greatest t ↦
+          let none_more = rw (lt-leb _ _ t.if-x-greatest.false) at more in
+          (omega (arith, t.got-is, none_more, l.invariant.0), omega (arith, t.got-is, l.invariant), none)
+    ]
+
+pub returns-then-got-wanted-2 : goal.returns-then-got-wanted-2
+unfolding too_few
+returns-then-got-wanted-2 c =
+    let a = c.args in
+    let l = c.loop-seen in
+    let w = a.words.now in
+    let all = l.invariant.0 ∙ ap (λ xs. length (given a.interval xs)) (take_all l.seen w (omega arith)) in
+    record {
+      number = simp (lt-ltb (length (given a.interval w)) a.wanted (omega (arith, all)));
+      read = refl;
+    }
 
 pub returns : goal.returns
 returns c =
     let a = c.args in
-    let l = c.loop-got in
+    let l = c.loop-seen in
     let w = a.words.now in
-    let holds : a.wanted ≤ length (given a.interval (take l.seen w)) = omega (arith, l.invariant.1) in record {
+    let seen : l.seen ≡ length w = omega arith in
+    let holds : a.wanted ≤ length (given a.interval (take l.seen w)) = omega (arith, l.invariant) in record {
       number = simp (enough_given a.interval a.wanted w l.seen holds);
-      read = sym (shortest_is a.interval a.wanted w l.seen l.invariant.0 l.invariant.2 holds);
+      read = sym (shortest_is a.interval a.wanted w l.seen l.auto.seen-end l.invariant.2 holds ∙ seen);
     }

@@ -1,15 +1,10 @@
--- What the words read so far give stands at the start of the output.
-use mathlib.Core.Path.{◌≡◌}
-use Prim.Native.Nat.{◌-◌, ◌≤◌}
-use lib.ListN.{length, take}
+-- The values of the accepted words so far stand at the start of the output.
+use Rattle.std.proofs.Common.{length, take, map}
+use Rattle.std.specs.List.{filter}
 use Rattle.laws.proofs.Filling.{Filled}
-use Rattle.samples.specs.Sampler.{given}
+use Rattle.samples.specs.Sampler.{accepted, ternary}
 use Rattle.samples.proofs.sampler.fill.Given as goal
 
-abbrev pub invariant-loop-read : goal.invariant-loop-read
-invariant-loop-read l = (l.read ≤ length l.words)
-    × (l.put ≡ length (given l.interval (take l.read l.words)))
-    × Filled (given l.interval (take l.read l.words)) l.initial.out l.out
-
-abbrev pub decreases-loop-read : goal.decreases-loop-read
-decreases-loop-read l = length l.words - l.read
+abbrev pub invariant-loop-put : goal.invariant-loop-put
+invariant-loop-put l =
+    Filled (map (ternary l.interval) (take (length l.yielded) (filter (accepted l.interval) l.words))) l.initial.out l.out
