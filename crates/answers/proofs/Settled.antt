@@ -20,6 +20,11 @@ use Rattle.answers.proofs.lines.WritingRefusalRefusal.number as writing_refusal
 use Rattle.answers.proofs.lines.LineWrittenFromResultUsizeWritingRefusal.from as told_writing
 use Rattle.answers.proofs.lines.ReadingRefusalRefusal.number as reading_refusal
 use Rattle.answers.proofs.lines.LineReadFromResultTuple2U32UsizeReadingRefusal.from as told_reading
+use denote.Struct.Field.{unit-field}
+use Rattle.answers.specs.contracts.matrix.FittingRefusal as fitting_reasons
+use Rattle.answers.specs.contracts.packing.PackingRefusal as packing_reasons
+use Rattle.answers.specs.contracts.codec.EncodingRefusal as encoding_reasons
+use Rattle.answers.specs.contracts.database.BuildingRefusal as building_reasons
 
 -- of every kind of answer at once
 pub told_settled : (T R : RattleType) (t : Laws T) (r : Laws R) (g : Ghosts R.Denot) (d e : Dict)
@@ -67,3 +72,20 @@ reading_refusal_settled κs a x y v w p q = (p ∙⁻¹ q, refl)
 
 pub told_reading_settled : AllowsOne told_reading.Kinds.ps told_reading.Kinds.r told_reading.Reads.Post
 told_reading_settled κs a x y v w p q = (p ∙⁻¹ q, refl)
+
+-- and of each entry's answer by itself
+pub told_fitting_settled : (t : Laws unit-field.row) (r : Laws fitting_reasons.the_row) (g : Ghosts (fitting_reasons.the_row).Denot) (d e : Dict)
+    → AnswersOne (told.Kinds.ps unit-field.row fitting_reasons.the_row t r) (told.Kinds.r unit-field.row fitting_reasons.the_row t r) (told.Reads.Post unit-field.row fitting_reasons.the_row t r g d e)
+told_fitting_settled = told_settled unit-field.row fitting_reasons.the_row
+
+pub told_packing_settled : (t : Laws unit-field.row) (r : Laws packing_reasons.the_row) (g : Ghosts (packing_reasons.the_row).Denot) (d e : Dict)
+    → AnswersOne (told.Kinds.ps unit-field.row packing_reasons.the_row t r) (told.Kinds.r unit-field.row packing_reasons.the_row t r) (told.Reads.Post unit-field.row packing_reasons.the_row t r g d e)
+told_packing_settled = told_settled unit-field.row packing_reasons.the_row
+
+pub told_encoding_settled : (t : Laws unit-field.row) (r : Laws encoding_reasons.the_row) (g : Ghosts (encoding_reasons.the_row).Denot) (d e : Dict)
+    → AnswersOne (told.Kinds.ps unit-field.row encoding_reasons.the_row t r) (told.Kinds.r unit-field.row encoding_reasons.the_row t r) (told.Reads.Post unit-field.row encoding_reasons.the_row t r g d e)
+told_encoding_settled = told_settled unit-field.row encoding_reasons.the_row
+
+pub told_building_settled : (t : Laws unit-field.row) (r : Laws building_reasons.the_row) (g : Ghosts (building_reasons.the_row).Denot) (d e : Dict)
+    → AnswersOne (told.Kinds.ps unit-field.row building_reasons.the_row t r) (told.Kinds.r unit-field.row building_reasons.the_row t r) (told.Reads.Post unit-field.row building_reasons.the_row t r g d e)
+told_building_settled = told_settled unit-field.row building_reasons.the_row

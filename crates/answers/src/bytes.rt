@@ -26,7 +26,7 @@ impl Refusal for ParsingRefusal {
     }
 }
 
-// What it tells: rows and columns are 0 on a refusal.
+// What it tells: rows and columns are 0 on a refusal, as C reads it (the C interface).
 #[repr(C)]
 #[derive(Clone, Copy)]
 pub struct Parsed {

@@ -57,7 +57,7 @@ impl Refusal for DecodingRefusal {
     }
 }
 
-// What it tells: the value's length is 0 on a refusal.
+// What it tells: the value's length is 0 on a refusal, as C reads it (the C interface).
 #[repr(C)]
 #[derive(Clone, Copy)]
 pub struct Decoded {

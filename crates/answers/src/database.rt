@@ -1,5 +1,4 @@
 // Document 01, "Builder": the answers.
-ghost use Rattle.std.specs.Prelude.{◌≡◌};
 ghost use Rattle.answers.specs.Database.{building_refusal, building_refuses};
 
 use super::refusal::Refusal;

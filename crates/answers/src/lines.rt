@@ -26,7 +26,7 @@ impl Refusal for WritingRefusal {
     }
 }
 
-// What it tells: the line's length, LF included, is 0 on a refusal.
+// What it tells: the line's length, LF included, is 0 on a refusal, as C reads it (the C interface).
 #[repr(C)]
 #[derive(Clone, Copy)]
 pub struct LineWritten {
@@ -67,7 +67,7 @@ impl Refusal for ReadingRefusal {
     }
 }
 
-// What it tells: the ticket and the count of words are 0 on a refusal.
+// What it tells: the ticket and the count of words are 0 on a refusal, as C reads it (the C interface).
 #[repr(C)]
 #[derive(Clone, Copy)]
 pub struct LineRead {

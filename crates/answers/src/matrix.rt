@@ -1,5 +1,4 @@
 // Document 01, the plain product, the transpose and the matrix-bytes writer: the answers.
-ghost use Rattle.std.specs.Prelude.{◌≡◌};
 ghost use Rattle.answers.specs.Matrix.{fitting_refusal, fitting_refuses};
 
 use super::refusal::Refusal;

@@ -1,5 +1,4 @@
 // Document 01, "Packing" and "Packed product": the answers.
-ghost use Rattle.std.specs.Prelude.{◌≡◌};
 ghost use Rattle.answers.specs.Packing.{packing_refusal, packing_refuses};
 
 use super::refusal::Refusal;

@@ -1,4 +1,5 @@
-// What every reason to refuse has: document 01's number.
+// What every reason to refuse has: document 01's number. Each entry has an enum of its own, with exactly the cases that 01
+// lists for it, also where two lists are alike.
 ghost use Rattle.std.specs.Prelude.{◌≡◌, ℕ, ◌<◌};
 ghost use Rattle.answers.specs.Refusal.{number_of};
 

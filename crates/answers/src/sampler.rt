@@ -29,7 +29,7 @@ impl Refusal for SamplingRefusal {
     }
 }
 
-// What it tells: the count of words read, skipped ones included, is 0 on a refusal.
+// What it tells: the count of words read, skipped ones included, is 0 on a refusal, as C reads it (the C interface).
 #[repr(C)]
 #[derive(Clone, Copy)]
 pub struct Sampled {

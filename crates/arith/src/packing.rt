@@ -2,7 +2,7 @@
 ghost use Rattle.std.specs.Prelude.{◌≡◌, ℕ, List, ◌+◌, ◌*◌, ◌<◌, ◌≤◌, [], ◌∷◌, length, IfOk};
 ghost use Rattle.laws.specs.Refusals.{first, ◌⇒◌, width_bad};
 ghost use Rattle.laws.specs.Lists.{laid, join, row};
-ghost use Rattle.arith.specs.Packing.{factor_of, slot_bits, words_of, word_of, pack_row, packed, unpack_row, unpacked, slots};
+ghost use Rattle.arith.specs.Packing.{factor_of, slot_bits, words_of, word_of, pack_row, unpack_row, slots};
 ghost use Rattle.arith.specs.Packing.{packing_shape_bad, compress_number, compress_after, decompress_number, decompress_after};
 ghost use Rattle.answers.specs.Refusal.{number_of};
 ghost use Rattle.answers.specs.Packing.{packing_number, packing_refusal};
@@ -23,8 +23,8 @@ pub(crate) fn check(b: u32, shape_bad: bool) -> Result<Width, PackingRefusal>
     Ok(width)
 }
 
-// 2: rows of k elements, lent as rows of `from` words and written as rows of `to`. A row of k elements takes k words
-// or fewer, and a sum takes one.
+// 2, by the lengths alone, before anything is known to fit: rows of k elements, lent as rows of `from` words and written as
+// rows of `to`. A row of k elements takes k words or fewer, and a sum takes one.
 #[tactic(auto, unfolding(crate::specs::Packing::packing_shape_bad))]
 pub(crate) fn shape_bad(
     rows: usize,
@@ -43,7 +43,7 @@ pub(crate) fn shape_bad(
         || room < rows * to
 }
 
-// Slots in a word.
+// Slots in a word. (This and the bits of one are two definitions of 01, each with its name.)
 #[tactic(auto, unfolding(crate::specs::Packing::factor_of))]
 pub(crate) fn factor(b: u32) -> usize
     ensures value { result ≡ factor_of b }
@@ -75,7 +75,8 @@ pub(crate) fn words_of(b: u32, k: usize) -> usize
     k.div_ceil(factor(b))
 }
 
-// The elements of `part` in one word: the low b bits of each, in a slot of its own.
+// The elements of `part` in one word: the low b bits of each, in a slot of its own. (The walk over the slots stands three
+// times, here, in `unpack_word` and in product's `word_sum`, each time with another work in it, in the form that was timed.)
 fn pack_word(width: Width, part: &[u32]) -> u32
     requires { length part.now ≤ factor_of width.bits }
     ensures { result ≡ word_of width.bits (slot_bits width.bits) part.now }
@@ -91,7 +92,8 @@ fn pack_word(width: Width, part: &[u32]) -> u32
     word
 }
 
-// A row, word by word. The last word takes what is left of the row.
+// A row, word by word. The last word takes what is left of the row. (By places: what is written through an adapter of
+// `iter_mut` is lost to the prover.)
 fn pack_row(width: Width, elements: &[u32], out: &mut [u32])
     requires { length out.old ≡ words_of width.bits (length elements.now) }
     ensures { out.new ≡ pack_row width.bits elements.now }
@@ -101,8 +103,8 @@ fn pack_row(width: Width, elements: &[u32], out: &mut [u32])
     }
 }
 
-// Row after row, each from its place in the lent words to its place in the output: `work` makes a row of `to` words from one of
-// `from`. Where it makes `made` of a row, whatever stood there, the output starts with the rows so made.
+// Row after row, each from its place in the lent words to its place in the output, as 01 has it: `work` makes a row of `to`
+// words from one of `from`. Where it makes `made` of a row, whatever stood there, the output starts with the rows so made.
 fn each_row<F: Fn(&[u32], &mut [u32])>(
     rows: usize,
     from: usize,
@@ -126,7 +128,8 @@ fn each_row<F: Fn(&[u32], &mut [u32])>(
     }
 }
 
-// Packs `rows` rows of k elements into the start of `out`, each row from a word of its own on.
+// Packs `rows` rows of k elements into the start of `out`, each row from a word of its own on. (Its parameters, and those of
+// each entry below, are document 01's and the C interface's.)
 pub fn row_wise_compress(
     b: u32,
     rows: usize,

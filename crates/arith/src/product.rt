@@ -25,7 +25,7 @@ fn word_sum(width: Width, word: u32, part: &[u32]) -> u32
     acc
 }
 
-// The vector times one packed row, word by word.
+// The vector times one packed row, word by word: the word of a part is found by its place.
 fn row_sum(width: Width, vector: &[u32], words: &[u32]) -> u32
     requires { length words.now ≡ words_of width.bits (length vector.now) }
     ensures { result ≡ entry_of width.bits vector.now words.now }
@@ -37,7 +37,7 @@ fn row_sum(width: Width, vector: &[u32], words: &[u32]) -> u32
     acc
 }
 
-// Row after row: the row's part of the packed words, from row times width on, goes to the inner sum.
+// Row after row: the row's part of the packed words, from row times width on, goes to the inner sum, as 01 has it.
 fn row_sums(width: Width, vector: &[u32], rows: usize, words: &[u32], out: &mut [u32])
     requires words_len { length words.now ≡ rows * words_of width.bits (length vector.now) }
     requires rows_in_bounds { rows ≤ length out.old }
@@ -50,7 +50,7 @@ fn row_sums(width: Width, vector: &[u32], rows: usize, words: &[u32], out: &mut 
     }
 }
 
-// 2: a vector whose length is not k, or rows of `width` packed words that don't fit, one sum from each.
+// 2, by the lengths alone: a vector whose length is not k, or rows of `width` packed words that don't fit, one sum from each.
 #[tactic(auto, unfolding(crate::specs::Product::operands_bad))]
 fn operands_bad(
     rows: usize,
@@ -66,7 +66,8 @@ fn operands_bad(
     vector != k || packing::shape_bad(rows, k, width, 1, lent, room)
 }
 
-// The sum of products of the vector with each row of a packed matrix, row after row, into the start of `out`.
+// The sum of products of the vector with each row of a packed matrix, row after row, into the start of `out`. The parameters
+// are the C interface's.
 pub fn row_vector_x_compressed_transposed_matrix(
     b: u32,
     vector: &[u32],

@@ -15,7 +15,7 @@ pub use answers::database::BuildingRefusal;
 use leaves::width::Width;
 use leaves::{limits, words};
 
-// 2: each dimension is tested before a product is taken. It says so of any b.
+// 2: each dimension is tested before a product is taken. It says so of any b. It is asked before there can be a `LentKeys`.
 #[tactic(auto, unfolding(crate::specs::Database::keys_bad))]
 fn keys_bad(
     r: usize,
@@ -54,7 +54,7 @@ fn others_sum(columns: usize, ps: [u32; 4], index: u32, j: usize, words: &[u32])
     sum
 }
 
-// The other rows, summed column by column and wrapped.
+// The other rows, summed column by column and wrapped. (Two lines: a closure and its clause would be longer.)
 fn rest(columns: usize, ps: [u32; 4], index: u32, words: &[u32], sums: &mut [u32])
     requires sums_len { length sums.old ≡ columns }
     requires by_index { (s : ℕ) → s < 4 → slice_index ps s * columns + columns ≤ length words.now }
@@ -73,7 +73,7 @@ fn subtract(width: Width, a: u32, c: u32) -> u32
     a.wrapping_add(m - c % m) % m
 }
 
-// Writes the target row: its row less the other rows' sums less the masks.
+// Writes the target row: its row less the other rows' sums less the masks. (By places: four lists are read or written at one.)
 fn subtract_row(width: Width, row: &[u32], sums: &[u32], masks: &[u32], target: &mut [u32])
     requires { (length row.now ≡ length target.old) × (length sums.now ≡ length target.old) × (length masks.now ≡ length target.old) }
     ensures { target.new ≡ build (length target.old) (λ j. less width.bits (less width.bits (slice_index row.now j) (slice_index sums.now j)) (slice_index masks.now j)) }
@@ -115,6 +115,7 @@ fn place_keys(width: Width, keys: LentKeys<'_>, words: &mut [u32])
     ensures { words.new ≡ database width.bits keys.entry.r keys.entry.columns (keys_in keys.entry) keys.entry.count }
 {
     words::zero(words);
+    // The library has no heap: this is of the largest size.
     let mut sums = [0u32; limits::COLUMNS_MOST];
     for i in 0..keys.count {
         place_key(width, keys, i, &mut sums[..keys.columns], words);

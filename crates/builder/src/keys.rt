@@ -1,4 +1,5 @@
-// Document 01, "Builder": the keys of a proposed order, as they are lent: flat, key after key.
+// Document 01, "Builder": the keys of a proposed order, as they are lent: flat, key after key (the C interface), so that they
+// are gone through by their index.
 ghost use Rattle.std.specs.Prelude.{◌≡◌, ◌*◌, ◌<◌, ◌≤◌, length};
 
 // Their shape has been tested: each list has as many words as `count` keys take, four positions and one index for each key.

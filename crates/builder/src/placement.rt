@@ -30,6 +30,7 @@ fn mark(ps: [u32; 4], marks: &mut [bool])
 pub(crate) fn placement_bad(keys: LentKeys<'_>) -> bool
     ensures { result ≡ placement_bad keys.entry.r (keys_in keys.entry) keys.entry.count }
 {
+    // The library has no heap: this is of the largest size.
     let mut marks = [false; limits::ROWS_MOST];
     for (i, index) in keys.targets.iter().enumerate() {
         let ps = keys.places(i);

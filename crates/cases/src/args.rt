@@ -47,9 +47,9 @@ impl<'a> Args<'a> {
     // Of a digest the first 32, with zeros behind them where they are fewer.
     pub(crate) fn digest(&mut self) -> Result<[u8; 32], Fault> {
         let mut digest = [0; 32];
-        for (x, y) in digest.iter_mut().zip(self.bytes()?.iter()) {
-            *x = *y;
-        }
+        let bytes = self.bytes()?;
+        let n = bytes.len().min(32);
+        digest[..n].copy_from_slice(&bytes[..n]);
         Ok(digest)
     }
 

@@ -69,7 +69,7 @@ fn quoted<'a>(numbers: &mut Vec<usize>, text: &'a [u8]) -> Result<&'a [u8], Faul
     Ok(&rest[1..])
 }
 
-// All of a line's numbers.
+// All of a line's numbers. (Each turn takes a part of the line of any length, so there is no iterator to go over.)
 pub(crate) fn numbers(alloc: Global, line: &[u8]) -> Result<Vec<usize>, Fault> {
     let mut numbers = Vec::new(alloc);
     let mut text = line;

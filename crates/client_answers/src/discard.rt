@@ -1,5 +1,4 @@
 // Document 01, "Reply": the answers.
-ghost use Rattle.std.specs.Prelude.{◌≡◌};
 ghost use Rattle.client_answers.specs.Discard.{discarding_refusal, discarding_refuses};
 
 use answers::refusal::Refusal;

@@ -1,5 +1,4 @@
 // Document 01, "Pending table": the answers.
-ghost use Rattle.std.specs.Prelude.{◌≡◌};
 ghost use Rattle.client_answers.specs.Table.{making_refusal, making_refuses};
 
 use answers::refusal::Refusal;

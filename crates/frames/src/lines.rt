@@ -1,5 +1,6 @@
 // Document 01, "Lines": a frame as one line of lowercase hexadecimal. A terminal writes queries (kind 1) and reads responses
-// (kind 2), its host the other way round, so the kind is a parameter here; `terminal` fixes it.
+// (kind 2), its host the other way round, so the kind is a parameter here; `terminal` fixes it. It is any byte and no enum:
+// the clauses with `write_line_after` and `read_line_after` speak of every kind.
 ghost use Rattle.std.specs.Prelude.{◌≡◌, true, false, [], ◌∷◌, ◌+◌, ◌*◌, ◌/◌, ◌%◌, ◌<◌, ◌≤◌, length, get_or, eqb, is_none, IfSome, MatchResult};
 ghost use Rattle.laws.specs.Lists.{laid};
 ghost use Rattle.plain.specs.Bytes.{word_bytes, all_bytes, word_at};
@@ -20,7 +21,7 @@ const HEAD_DIGITS: usize = 26;
 // The characters of a line without words, LF included.
 const LINE_LEAST: usize = 27;
 
-// The character of a digit.
+// The character of a digit: `char::from_digit` gives an Option of a char.
 #[tactic(auto, unfolding(crate::specs::Lines::digit))]
 fn digit_of(d: u8) -> u8
     requires { d < 16 }
@@ -57,7 +58,7 @@ fn put_word_digits(x: u32, part: &mut [u8])
     put_bytes_digits(&x.to_le_bytes(), part);
 }
 
-// Word after word, by places for the same reason.
+// Word after word, by places for the same reason. (One function for both, over a closure and its clause, would be longer.)
 fn put_words_digits(words: &[u32], part: &mut [u8])
     requires { length part.old ≡ length words.now * 8 }
     ensures { part.new ≡ hex (all_bytes words.now) }
@@ -148,7 +149,7 @@ impl<'a> Text<'a> {
         high * 16 + low
     }
 
-    // Word q after the kind.
+    // Word q after the kind. (`word_of` is public and takes its four bytes.)
     fn word(&self, q: usize) -> u32
         requires { q * 8 + 10 < length self.now.line.now }
         ensures { result ≡ word_at (body_of self.now.line.now) q }
@@ -186,7 +187,7 @@ fn whole<'a>(kind: u8, line: &'a [u8]) -> Result<Text<'a>, ReadingRefusal>
     Ok(text)
 }
 
-// The line's words: `out` has exactly that many.
+// The line's words: `out` has exactly that many. (Two lines, as in `plain`: a closure's clause would be longer.)
 fn read_words(text: &Text, out: &mut [u32])
     requires { (length out.old * 8 + 26 < length text.now.line.now) × (length out.old ≡ line_columns text.now.line.now) }
     ensures { out.new ≡ line_words text.now.line.now }

@@ -8,7 +8,7 @@ use native.Mathlib.Omega.{arith}
 use lib.Arith.{digits_div, digits_mod}
 use lib.Bits.{bit_or, or_shifted_r}
 use lib.ListN.{length, get_or}
-use lib.Pow.{pow_pos, pow-lt, shl_exact}
+use lib.Pow.{pow-lt, shl_exact}
 use lib.Seq.{ext_get_or}
 use Rattle.laws.specs.Sums.{sum}
 use Rattle.laws.specs.Bits.{bit_of, gathered, carried}
@@ -19,9 +19,6 @@ use Rattle.laws.proofs.Digits.{low_digits, together_lt, digit_together}
 -- a one that is shifted stays inside its word, and so is not 0
 pub one_shifted : (k : ℕ) → k < 32 → (1 * 2 ^ k) % 2 ^ 32 ≡ 2 ^ k
 one_shifted k h = ap (λ (x : ℕ). x % 2 ^ 32) (one-mul (2 ^ k)) ∙ mod-eq_of_lt (pow-lt {j = 32} h)
-
-pub shifted_pos : (k : ℕ) → k < 32 → 0 < (1 * 2 ^ k) % 2 ^ 32
-shifted_pos k h = omega (arith, one_shifted k h, pow_pos k)
 
 pub bit_lt : (w : ℕ) (xs : List ℕ) (k : ℕ) → bit_of w xs k < 2
 unfolding bit_of

@@ -2,11 +2,11 @@
 use mathlib.Core.Path.{◌≡◌, refl, sym, ap, ap₂, ◌∙◌}
 use mathlib.Core.List.{List, [], ◌∷◌, ◌++◌, append_assoc, append-nil}
 use Prim.Native.Nat.{ℕ, ◌+◌, ◌*◌, ◌-◌, ◌<◌, ◌≤◌}
-use native.Mathlib.Nat.{zero-add, add-zero}
+use native.Mathlib.Nat.{add-zero}
 use native.Mathlib.Numerals.{add-one}
 use native.Mathlib.Omega.{arith}
 use lib.ListN.{length, get_or, set, take, drop, length-append, length-drop, drop_of_length-le}
-use lib.Seq.{set_split, drop-drop, take_at, take-length, drop-append-add, get_or-append-add, get_or-drop, paste}
+use lib.Seq.{set_split, drop-drop, take_at, drop-append-add, get_or-append-add, get_or-drop}
 use borrow.Rule.Slice.PartMut.{put_mid}
 use Rattle.laws.specs.Lists.{build, join, splice, laid}
 use Rattle.laws.proofs.Lists.{room, length-build, length-join}
@@ -21,20 +21,6 @@ pub put_splice : {A : Type 0} (a d : ℕ) (xs ys : List A) → d ≡ length ys �
 unfolding splice
 put_splice a d xs ys h =
     ap (λ l. take a xs ++ (ys ++ l)) (drop-drop d a xs ∙ ap (λ (i : ℕ). drop (a + i) xs) h)
-
--- a list that was copied in, element after element, is a splice
-pub paste-splice : {A : Type 0} (a : ℕ) (ys xs : List A) → paste xs a ys (length ys) ≡ splice a ys xs
-unfolding splice
-paste-splice a ys xs =
-    ap (λ l. take a xs ++ l ++ drop (a + length ys) xs) (take-length ys)
-    ∙ append_assoc (take a xs) ys (drop (a + length ys) xs)
-
--- the start of a buffer, lent and come back
-pub front_laid : {A : Type 0} (n : ℕ) (xs ys : List A) → n ≡ length ys → put_mid 0 (n - 0) xs ys ≡ laid ys xs
-unfolding laid splice
-front_laid n xs ys h =
-    let e : n - 0 ≡ n = omega arith in
-    rw e (put_splice 0 n xs ys h ∙ ap (λ (i : ℕ). ys ++ drop i xs) (zero-add (length ys)))
 
 -- xs stands at the start of a buffer, whose rest is as it was
 pub record Filled {A : Type 0} (xs old new : List A) : Type 0 where

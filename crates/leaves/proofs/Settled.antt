@@ -6,6 +6,7 @@ use Rattle.std.specs.Prelude.{ℕ, Option, Some, None, MatchOption}
 use Rattle.laws.specs.Refusals.{width_bad}
 use Rattle.leaves.specs.declared.width.Width.{Width}
 use denote.RattleType.{RattleType}
+use denote.Struct.Field.{u8-field}
 use mir.Syntax.{Dict}
 use Rattle.std.specs.declared.clone.Clone.{Ghosts}
 use denote.Param.Laws.{Laws, IsCopy}
@@ -61,6 +62,11 @@ zero_settled κs a x y v w p q = (refl, p ∙⁻¹ q & refl)
 pub copy_settled : (T : RattleType) (t : Laws T) (c : IsCopy T) (g : Ghosts T.Denot) (d : Dict)
     → AllowsOne (copy.Kinds.ps T t c) (copy.Kinds.r T t c) (copy.Reads.Post T t c g d)
 copy_settled T t c g d κs a x y v w p q = (refl, skip 1 (p ∙⁻¹ q & refl))
+
+-- and of bytes
+pub copy_bytes_settled : (t : Laws u8-field.row) (c : IsCopy u8-field.row) (g : Ghosts (u8-field.row).Denot) (d : Dict)
+    → AllowsOne (copy.Kinds.ps u8-field.row t c) (copy.Kinds.r u8-field.row t c) (copy.Reads.Post u8-field.row t c g d)
+copy_bytes_settled = copy_settled u8-field.row
 
 pub width_modulus_settled : AllowsOne width_modulus.Kinds.ps width_modulus.Kinds.r width_modulus.Reads.Post
 width_modulus_settled κs a x y v w p q = (p ∙⁻¹ q, refl)

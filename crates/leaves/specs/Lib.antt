@@ -1,4 +1,4 @@
--- The leaves of document 01, one module for each. What a reader must believe stands here.
+-- The leaves of document 01, one module for each but `width`, whose clauses say its numbers outright. What a reader must believe stands here.
 pub mod Limits
 pub mod Positions
 pub mod Digests

@@ -4,7 +4,7 @@ ghost use Rattle.leaves.specs.Rounding.{indicator_of, modulus_of, rounded};
 
 use super::limits;
 
-// Δ = 2^(32-b). No u32 is that for b 0 or above 32: 0 then.
+// Δ = 2^(32-b). No u32 is that for b 0 or above 32: 0 then, and no Option: the clause with `indicator_of` has it, and C's.
 pub fn calculate_query_indicator(b: u32) -> u32
     ensures { result ≡ indicator_of b }
 {
@@ -14,7 +14,8 @@ pub fn calculate_query_indicator(b: u32) -> u32
     1 << (32 - b)
 }
 
-// 2^b. No u32 is that from b 32 on: 0 then.
+// 2^b. No u32 is that from b 32 on: 0 then, and no Option: the clause with `modulus_of` has it. It is of any b, which
+// `Width`'s is not.
 pub fn modulus(b: u32) -> u32
     ensures { result ≡ modulus_of b }
 {

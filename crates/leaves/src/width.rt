@@ -1,4 +1,5 @@
-// Document 01, "Numbers we allow": b, the width of an element, once it is known to be 4 to 14 bits.
+// Document 01, "Numbers we allow": b, the width of an element, once it is known to be 4 to 14 bits. `rounding` has modulus and
+// indicator of any b, which are public and stay.
 ghost use Rattle.std.specs.Prelude.{◌≡◌, ◌≤◌, ◌-◌, ◌^◌, true, false, MatchOption};
 ghost use Rattle.laws.specs.Refusals.{width_bad};
 

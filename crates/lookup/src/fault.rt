@@ -3,7 +3,7 @@ use answers::refusal::Refusal;
 use std::fmt::Display;
 use std::{fmt, io};
 
-// Document 01's number of a refusal, shown with what it says to the person at the till.
+// Document 01's number of a refusal, shown with what it says to the person at the till: one text for the enums of all entries.
 #[derive(Clone, Copy, Debug)]
 pub(crate) struct Refused(pub(crate) u32);
 

@@ -1,5 +1,5 @@
-// Document 01, "Pending table": 64 slots by value, made and searched. Their secrets lie in a lent slab, which is not part of the
-// table.
+// Document 01, "Pending table": 64 slots by value, made and searched. Their secrets lie in a lent slab, which is not part of
+// the table.
 ghost use Rattle.std.specs.Prelude.{◌≡◌, not, ◌&&◌, ◌<◌, replicate, leb, IfOk};
 ghost use Rattle.laws.specs.Search.{some};
 ghost use Rattle.leaves.specs.Digests.{differs};

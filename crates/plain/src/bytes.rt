@@ -1,5 +1,5 @@
 // Document 01, "Matrix bytes": rows, columns and elements, each a u32 with its lowest byte first.
-ghost use Rattle.std.specs.Prelude.{◌≡◌, ◌+◌, ◌*◌, ◌≤◌, not, ◌||◌, [], ◌∷◌, length, ◌==◌, nat_lt, IfOk};
+ghost use Rattle.std.specs.Prelude.{◌≡◌, ◌+◌, ◌*◌, ◌≤◌, not, ◌||◌, [], ◌∷◌, length, ◌==◌, IfOk};
 ghost use Rattle.laws.specs.Lists.{build, laid};
 ghost use Rattle.answers.specs.Matrix.{fitting_number};
 ghost use Rattle.plain.specs.Bytes.{low_bytes, word_at, all_bytes, matrix_bytes, to_bytes_number, to_bytes_after};
@@ -73,7 +73,7 @@ pub fn word_of(x0: u8, x1: u8, x2: u8, x3: u8) -> u32
     u32::from_le_bytes([x0, x1, x2, x3])
 }
 
-// Word q of the bytes.
+// Word q of the bytes. (`word_of` is public and takes its four bytes.)
 #[tactic(auto, unfolding(crate::specs::Bytes::word_at, laws::specs::Sums::sum))]
 fn word_at(bytes: &[u8], q: usize) -> u32
     requires { q * 4 + 4 ≤ length bytes.now }
@@ -114,7 +114,7 @@ fn dimensions(bytes: &[u8], room: usize) -> Result<(usize, usize), ParsingRefusa
     Ok((rows, columns))
 }
 
-// Words from the third on, as many as `out` has room for.
+// Words from the third on, as many as `out` has room for. (Two lines: a closure and its clause would be longer.)
 fn read_words(bytes: &[u8], out: &mut [u32])
     requires { 8 + 4 * length out.old ≤ length bytes.now }
     ensures { out.new ≡ build (length out.old) (λ q. word_at bytes.now (2 + q)) }

@@ -79,7 +79,7 @@ fn cell_sum(row: &[u32], right: &Matrix, j: usize) -> u32
     acc
 }
 
-// One row of the product.
+// One row of the product. (Two lines, as in `column`: a closure and its clause would be longer.)
 fn row_times(row: &[u32], right: &Matrix, out: &mut [u32])
     requires { (length row.now ≡ right.now.rows) × (length out.old ≡ right.now.columns) }
     ensures { out.new ≡ build right.now.columns (λ j. sum right.now.rows (λ t. slice_index row.now t * cell right.now.columns right.now.words.now t j) % 2 ^ 32) }
@@ -100,8 +100,8 @@ fn rows_times(left: &Matrix, right: &Matrix, out: &mut [u32])
     }
 }
 
-// The product of a matrix of r times m words and one of m times c, into the start of `out`. Words and dimensions come apart, as
-// the C interface lends them.
+// The product of a matrix of r times m words and one of m times c, into the start of `out`. Words and dimensions come apart,
+// as the C interface lends them.
 #[tactic(auto, unfolding(crate::specs::Matrix::times_number))]
 pub fn plain_product(
     r: usize,

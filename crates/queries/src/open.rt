@@ -20,7 +20,7 @@ use pending::table::Table;
 use plain::matrix;
 use tickets::slots;
 
-// Not a Result of its own: the table comes back on a refusal too.
+// Not a Result of its own: the table comes back on a refusal too. `open_said` is of this struct, so it is none of `replies`'.
 #[derive(Clone, Copy)]
 pub struct Opened {
     pub answer: Result<(u32, usize), OpeningRefusal>,
@@ -102,7 +102,8 @@ fn words_for_both(interval: u32, n: usize, r: usize, words: &[u32]) -> Result<us
     Ok(first + second)
 }
 
-// Every refusal but 6, before anything is written; else the ticket and the count of words to read.
+// Every refusal but 6, before anything is written; else the ticket and the count of words to read. What it takes is not known
+// to fit yet, and goes nowhere else together.
 fn plan(
     table: &Table,
     n: usize,

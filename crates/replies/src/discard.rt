@@ -7,7 +7,7 @@ pub use client_answers::discard::DiscardingRefusal;
 use pending::table::{SLOTS, Table};
 use tickets::slots;
 
-// The table comes back from a refusal too.
+// The table comes back from a refusal too. One struct for it and for a reply would need a parameter, and specs/ their names.
 #[derive(Clone, Copy)]
 pub struct Discarded {
     pub answer: Result<(), DiscardingRefusal>,

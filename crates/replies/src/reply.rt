@@ -21,7 +21,7 @@ use tickets::slots;
 // The longest value of all: C 512 and b 14.
 const VALUE_MOST: usize = limits::COLUMNS_MOST * limits::WIDTH_MOST / 8 - codec::BESIDE_VALUE;
 
-// The table comes back from a refusal too.
+// The table comes back from a refusal too. `reply_said` is of this struct.
 #[derive(Clone, Copy)]
 pub struct Replied {
     pub answer: Result<usize, ReplyingRefusal>,
@@ -49,7 +49,7 @@ fn lent_bad(table: &Table, slab: usize, masks: usize, value: usize) -> bool
         || value < codec::value_room(table.b, table.columns)
 }
 
-// 18, 2, 10, 12: the refusals that need no row; else the ticket's slot.
+// 18, 2, 10, 12: the refusals that need no row; else the ticket's slot. What it takes is not known to fit yet.
 fn check(
     table: Table,
     slab: usize,
@@ -77,7 +77,7 @@ fn check(
     Ok(Waiting { table, slot })
 }
 
-// The row that a response gives with its query's secret.
+// The row that a response gives with its query's secret. (By places: four lists are read or written at one.)
 fn recover(width: Width, secret: &[u32], response: &[u32], masks: &[u32], row: &mut [u32])
     requires { (length secret.now ≡ length row.old) × (length response.now ≡ length row.old) × (length masks.now ≡ length row.old) }
     ensures { row.new ≡ recovered width.bits secret.now response.now masks.now }
@@ -89,7 +89,7 @@ fn recover(width: Width, secret: &[u32], response: &[u32], masks: &[u32], row: &
     }
 }
 
-// What the row reader refuses, as a reply's reason. Its 1 and 2 can't come up.
+// What the row reader refuses, as a reply's reason. Its 1 and 2 can't come up, and a `From` would need a number for them.
 fn refused(reason: DecodingRefusal) -> ReplyingRefusal
     requires { 2 < decoding_refusal reason }
     ensures { replying_refusal result ≡ decoding_refusal reason }
@@ -115,6 +115,7 @@ impl Waiting {
         ensures length { replying_length result ≡ after (replying_number result) (value_length self.now.table.b self.now.table.columns row.now) 0 }
         ensures value_after { value.new ≡ after (replying_number result) (laid (value_of self.now.table.b self.now.table.columns row.now) value.old) value.old }
     {
+        // The library has no heap: these are of the largest sizes.
         let mut digest = [0u8; 32];
         let mut found = [0u8; VALUE_MOST];
         let n = codec::decode_kv_from_row(
@@ -149,6 +150,7 @@ impl Waiting {
         let columns = self.table.columns;
         let from = self.slot * columns;
         let secret = &slab[from..from + columns];
+        // As long as any row, since the library has no heap.
         let mut row = [0u32; limits::COLUMNS_MOST];
         recover(self.width(), secret, response, masks, &mut row[..columns]);
         self.read_row(&row[..columns], value)
@@ -195,7 +197,8 @@ fn closes(answer: Result<usize, ReplyingRefusal>) -> bool
     }
 }
 
-// The value for a response, written at the start of `value`. Success, 13 and 14 close the ticket.
+// The value for a response, written at the start of `value`. Success, 13 and 14 close the ticket. The parameters are the C
+// interface's, which lends table and slab apart.
 pub fn process_response(
     table: Table,
     slab: &mut [u32],

@@ -1,6 +1,6 @@
 // Document 01, "Row codec": a digest and a value as one row of elements of b bits, bit by bit.
 ghost use Rattle.std.specs.Prelude.{◌≡◌, ℕ, true, false, MatchOption, ◌+◌, ◌*◌, ◌-◌, ◌/◌, ◌%◌, ◌^◌, ◌≤◌, ◌<◌, [], ◌∷◌, ◌++◌, length, get_or};
-ghost use Rattle.laws.specs.Lists.{laid, part};
+ghost use Rattle.laws.specs.Lists.{part};
 ghost use Rattle.laws.specs.Bits.{bit_of, gathered};
 ghost use Rattle.rows.specs.Codec.{bytes_in, columns_bad, room_of, row_of, encode_number, encode_after};
 ghost use Rattle.answers.specs.Codec.{encoding_number};
@@ -60,7 +60,8 @@ fn bytes_in(b: u32, columns: usize) -> usize
     columns * (b as usize) / 8
 }
 
-// The longest value that a row has room for, beside digest and marker; 0 where the columns are refused.
+// The longest value that a row has room for, beside digest and marker; 0 where the columns are refused, and no Option: the
+// clause with `room_of` has it.
 #[tactic(auto, using(crate::proofs::codec::Sizes::sized), unfolding(crate::specs::Codec::room_of))]
 pub fn value_room(b: u32, columns: usize) -> usize
     ensures { result ≡ room_of b columns }
@@ -99,7 +100,7 @@ fn element_at(width: Width, digest: [u8; 32], value: &[u8], j: usize) -> u32
     )
 }
 
-// The row, element after element.
+// The row, element after element. (Two lines, as in `Row::read`: a closure and its clause would be longer.)
 fn write_row(width: Width, digest: [u8; 32], value: &[u8], out: &mut [u32])
     requires { length out.old ≤ 512 }
     ensures { out.new ≡ row_of width.bits (length out.old) digest value.now }
@@ -109,7 +110,8 @@ fn write_row(width: Width, digest: [u8; 32], value: &[u8], out: &mut [u32])
     }
 }
 
-// Writes a digest and a value as C elements of b bits into the start of `out`.
+// Writes a digest and a value as C elements of b bits into the start of `out`. (Its parameters and the reader's are the C
+// interface's.)
 #[tactic(auto, unfolding(crate::specs::Codec::encode_number, crate::specs::Codec::room_of))]
 pub fn encode_kv_as_row(
     b: u32,

@@ -23,7 +23,8 @@ fn value_of(interval: u32, x: u32) -> u32
     }
 }
 
-// The shortest start of the words that holds enough, or 3. Nothing is written before this is known.
+// The shortest start of the words that holds enough, or 3. Nothing is written before this is known. (`filter` and `nth` would
+// have to take none wanted apart.)
 fn count_read(interval: u32, wanted: usize, words: &[u32]) -> Result<usize, SamplingRefusal>
     requires { interval ≤ 1431655765 }
     ensures number { sampling_number result ≡ first (too_few interval wanted words.now ⇒ 3 ∷ []) }
@@ -60,7 +61,7 @@ pub fn words_to_read(interval: u32, wanted: usize, words: &[u32]) -> Result<usiz
     count_read(interval, wanted, words)
 }
 
-// Writes the value of each accepted word.
+// Writes the value of each accepted word. (By places: what is written through an adapter of `iter_mut` is lost to the prover.)
 fn fill(interval: u32, words: &[u32], out: &mut [u32])
     requires interval_bound { interval ≤ 1431655765 }
     requires words_len { length (given interval words.now) ≡ length out.old }
@@ -72,7 +73,7 @@ fn fill(interval: u32, words: &[u32], out: &mut [u32])
     }
 }
 
-// Fills `out` from the words.
+// Fills `out` from the words. (What is lent, here and below, is the C interface's.)
 pub fn sample_from_uniform_ternary_dist(
     interval: u32,
     words: &[u32],

@@ -27,9 +27,6 @@ module _ (interval n : ℕ) (words : List ℕ) where
         ∙ read
         ∙ sym (written (sample_number interval n words) (shortest interval n words) 0 success)
 
-    pub read_within : sampling_read r ≡ sample_read interval n words → m ≤ length words
-    read_within read = rw (reads read) (shortest_within interval n words)
-
   -- 0: the interval is within its limits, and there are words enough
   pub allowed : sample_number interval n words ≡ 0 → (interval ≤ 1431655765) × (too_few interval n words ≡ false)
   unfolding sample_number
