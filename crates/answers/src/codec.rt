@@ -57,7 +57,8 @@ impl Refusal for DecodingRefusal {
     }
 }
 
-// What it tells: the value's length is 0 on a refusal, as C reads it (the C interface).
+// What it tells: the value's length is 0 on a refusal, as C reads it (the C interface, which has the sampler's struct, this and
+// the line writer's apart).
 #[repr(C)]
 #[derive(Clone, Copy)]
 pub struct Decoded {

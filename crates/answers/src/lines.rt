@@ -26,7 +26,7 @@ impl Refusal for WritingRefusal {
     }
 }
 
-// What it tells: the line's length, LF included, is 0 on a refusal, as C reads it (the C interface).
+// What it tells: the line's length, LF included, is 0 on a refusal, as C reads it (the C interface; as `Decoded`).
 #[repr(C)]
 #[derive(Clone, Copy)]
 pub struct LineWritten {

@@ -29,7 +29,8 @@ impl Refusal for SamplingRefusal {
     }
 }
 
-// What it tells: the count of words read, skipped ones included, is 0 on a refusal, as C reads it (the C interface).
+// What it tells: the count of words read, skipped ones included, is 0 on a refusal, as C reads it (the C interface; as
+// `Decoded`).
 #[repr(C)]
 #[derive(Clone, Copy)]
 pub struct Sampled {

@@ -24,7 +24,7 @@ pub(crate) fn check(b: u32, shape_bad: bool) -> Result<Width, PackingRefusal>
 }
 
 // 2, by the lengths alone, before anything is known to fit: rows of k elements, lent as rows of `from` words and written as
-// rows of `to`. A row of k elements takes k words or fewer, and a sum takes one.
+// rows of `to`. (`from` and `to` are at most k, or 1 for the product's sums, so that neither multiplication overflows.)
 #[tactic(auto, unfolding(crate::specs::Packing::packing_shape_bad))]
 pub(crate) fn shape_bad(
     rows: usize,
@@ -68,7 +68,8 @@ pub(crate) fn slot_bits(b: u32) -> u32
     }
 }
 
-// The words that k elements take, of any b: the shape is tested beside the width.
+// The words that k elements take, of any b: the shape is tested beside the width. (That a row has so many stands in four
+// contracts and in no struct: it is said of two lent slices together, of which packing fills one and unpacking the other.)
 pub(crate) fn words_of(b: u32, k: usize) -> usize
     ensures { result ≡ words_of b k }
 {
@@ -76,7 +77,9 @@ pub(crate) fn words_of(b: u32, k: usize) -> usize
 }
 
 // The elements of `part` in one word: the low b bits of each, in a slot of its own. (The walk over the slots stands three
-// times, here, in `unpack_word` and in product's `word_sum`, each time with another work in it, in the form that was timed.)
+// times, here, in `unpack_word` and in product's `word_sum`: one function for all, over a closure and its clause, would be
+// longer. So would a struct that knows that its part fits: two of the three read the part, and one fills it. The shift is
+// counted beside: as place times slot, which was tried, packing took a fifth longer and the product up to a third.)
 fn pack_word(width: Width, part: &[u32]) -> u32
     requires { length part.now ≤ factor_of width.bits }
     ensures { result ≡ word_of width.bits (slot_bits width.bits) part.now }
@@ -92,7 +95,7 @@ fn pack_word(width: Width, part: &[u32]) -> u32
     word
 }
 
-// A row, word by word. The last word takes what is left of the row. (By places: what is written through an adapter of
+// A row, word by word. The last word takes what is left of the row. (By places: what a loop writes through `zip` over
 // `iter_mut` is lost to the prover.)
 fn pack_row(width: Width, elements: &[u32], out: &mut [u32])
     requires { length out.old ≡ words_of width.bits (length elements.now) }
@@ -105,6 +108,7 @@ fn pack_row(width: Width, elements: &[u32], out: &mut [u32])
 
 // Row after row, each from its place in the lent words to its place in the output, as 01 has it: `work` makes a row of `to`
 // words from one of `from`. Where it makes `made` of a row, whatever stood there, the output starts with the rows so made.
+// (`shape_bad` has the like as lengths, before any is known to fit; with the lists they go together here alone.)
 fn each_row<F: Fn(&[u32], &mut [u32])>(
     rows: usize,
     from: usize,
@@ -154,7 +158,7 @@ pub fn row_wise_compress(
     Ok(())
 }
 
-// The low b bits of the slots of one word, as many as `part` has room for.
+// The low b bits of the slots of one word, as many as `part` has room for (the walk of `pack_word`).
 fn unpack_word(width: Width, word: u32, part: &mut [u32])
     requires { length part.old ≤ factor_of width.bits }
     ensures { part.new ≡ slots width.bits (slot_bits width.bits) word (length part.old) }

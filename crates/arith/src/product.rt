@@ -9,7 +9,8 @@ use super::packing;
 use super::packing::PackingRefusal;
 use leaves::width::Width;
 
-// The elements of `part` times the slots of one word. A slot that `part` does not reach doesn't count.
+// The elements of `part` times the slots of one word (the walk of `pack_word`). A slot that `part` does not reach doesn't
+// count.
 fn word_sum(width: Width, word: u32, part: &[u32]) -> u32
     requires { length part.now ≤ factor_of width.bits }
     ensures { result ≡ slot_sum width.bits (slot_bits width.bits) word part.now }
@@ -25,14 +26,14 @@ fn word_sum(width: Width, word: u32, part: &[u32]) -> u32
     acc
 }
 
-// The vector times one packed row, word by word: the word of a part is found by its place.
+// The vector times one packed row: each part of it beside its word.
 fn row_sum(width: Width, vector: &[u32], words: &[u32]) -> u32
     requires { length words.now ≡ words_of width.bits (length vector.now) }
     ensures { result ≡ entry_of width.bits vector.now words.now }
 {
     let mut acc: u32 = 0;
-    for (q, part) in vector.chunks(packing::factor(width.bits)).enumerate() {
-        acc = acc.wrapping_add(word_sum(width, words[q], part));
+    for (part, word) in vector.chunks(packing::factor(width.bits)).zip(words) {
+        acc = acc.wrapping_add(word_sum(width, *word, part));
     }
     acc
 }
@@ -50,7 +51,8 @@ fn row_sums(width: Width, vector: &[u32], rows: usize, words: &[u32], out: &mut 
     }
 }
 
-// 2, by the lengths alone: a vector whose length is not k, or rows of `width` packed words that don't fit, one sum from each.
+// 2, by the lengths alone, before anything is known to fit: a vector whose length is not k, or rows of `width` packed words
+// that don't fit, one sum from each.
 #[tactic(auto, unfolding(crate::specs::Product::operands_bad))]
 fn operands_bad(
     rows: usize,

@@ -12,10 +12,11 @@ ghost use Rattle.answers.specs.Database.{building_number};
 use super::keys::LentKeys;
 use super::placement;
 pub use answers::database::BuildingRefusal;
+use leaves::limits;
 use leaves::width::Width;
-use leaves::{limits, words};
 
-// 2: each dimension is tested before a product is taken. It says so of any b. It is asked before there can be a `LentKeys`.
+// 2: each dimension is tested before a product is taken. It is asked before there can be a `LentKeys`. (The clause is for every
+// b: `proposed` has one, and this test reads none.)
 #[tactic(auto, unfolding(crate::specs::Database::keys_bad))]
 fn keys_bad(
     r: usize,
@@ -39,7 +40,9 @@ fn keys_bad(
         || database.len() < r * columns
 }
 
-// Column j of the rows at the positions but the target, summed and wrapped.
+// Column j of the rows at the positions but the target, summed and wrapped. (The target is known by its place among the four.
+// Positions and index are no struct: they come from two lent lists, and `key_bad` has them before the index is known to be
+// good.)
 fn others_sum(columns: usize, ps: [u32; 4], index: u32, j: usize, words: &[u32]) -> u32
     requires j_lt_columns { j < columns }
     requires by_index { (s : ℕ) → s < 4 → slice_index ps s * columns + columns ≤ length words.now }
@@ -54,7 +57,7 @@ fn others_sum(columns: usize, ps: [u32; 4], index: u32, j: usize, words: &[u32])
     sum
 }
 
-// The other rows, summed column by column and wrapped. (Two lines: a closure and its clause would be longer.)
+// The other rows, summed column by column and wrapped. (Two lines, as in plain's `column`.)
 fn rest(columns: usize, ps: [u32; 4], index: u32, words: &[u32], sums: &mut [u32])
     requires sums_len { length sums.old ≡ columns }
     requires by_index { (s : ℕ) → s < 4 → slice_index ps s * columns + columns ≤ length words.now }
@@ -84,7 +87,8 @@ fn subtract_row(width: Width, row: &[u32], sums: &[u32], masks: &[u32], target: 
     }
 }
 
-// Writes key i's target row into its place inside the database. What `sums` held does not count.
+// Writes key i's target row into its place inside the database. What `sums` held does not count. (How long the database is
+// stands here and in `place_keys`: it is lent to be written, and `LentKeys` is copied.)
 fn place_key(width: Width, keys: LentKeys<'_>, i: usize, sums: &mut [u32], words: &mut [u32])
     requires i_lt_count { i < keys.count }
     requires rule { placement_bad keys.r (keys_in keys) keys.count ≡ false }
@@ -107,14 +111,15 @@ fn place_key(width: Width, keys: LentKeys<'_>, i: usize, sums: &mut [u32], words
     );
 }
 
-// The whole database: all zero, whatever the lent words held, and then key after key, in the order proposed.
+// The whole database: all zero, whatever the lent words held, and then key after key, in the order proposed. (By index: C lends
+// the keys as flat lists.)
 #[tactic(auto, unfolding(crate::specs::Database::database))]
 fn place_keys(width: Width, keys: LentKeys<'_>, words: &mut [u32])
     requires rule { placement_bad keys.r (keys_in keys) keys.count ≡ false }
     requires words_len { length words.old ≡ keys.r * keys.columns }
     ensures { words.new ≡ database width.bits keys.entry.r keys.entry.columns (keys_in keys.entry) keys.entry.count }
 {
-    words::zero(words);
+    words.fill(0);
     // The library has no heap: this is of the largest size.
     let mut sums = [0u32; limits::COLUMNS_MOST];
     for i in 0..keys.count {

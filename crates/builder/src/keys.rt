@@ -24,13 +24,11 @@ impl<'a> LentKeys<'a> {
     ghost use Rattle.laws.specs.Lists.{row};
 
     // The four positions of key i.
+    #[tactic(auto, using(laws::proofs::Lists::chunk_row))]
     pub(crate) fn places(self, i: usize) -> [u32; 4]
         requires { i < self.count }
         ensures { result ≡ row 4 self.entry.positions.now i }
     {
-        let at = i * 4;
-        let mut ps = [0; 4];
-        ps.copy_from_slice(&self.positions[at..at + 4]);
-        ps
+        self.positions.as_chunks().0[i]
     }
 }

@@ -26,7 +26,7 @@ fn mark(ps: [u32; 4], marks: &mut [bool])
     }
 }
 
-// 15: is the rule broken by one of the keys, in the order proposed?
+// 15: is the rule broken by one of the keys, in the order proposed? (By index: C lends the keys as flat lists.)
 pub(crate) fn placement_bad(keys: LentKeys<'_>) -> bool
     ensures { result ≡ placement_bad keys.entry.r (keys_in keys.entry) keys.entry.count }
 {

@@ -40,7 +40,10 @@ impl<'a> Args<'a> {
     // Of a buffer of bytes the low byte of each element counts.
     pub(crate) fn bytes(&mut self) -> Result<Vec<u8>, Fault> {
         let words = self.words()?;
-        let bytes = words.iter().map(|x| (*x % 256) as u8).collect(self.alloc)?;
+        let bytes = words
+            .iter()
+            .map(|x| x.to_le_bytes()[0])
+            .collect(self.alloc)?;
         Ok(bytes)
     }
 

@@ -1,4 +1,5 @@
-// Why a line has no answer of the library's.
+// Why a line has no answer of the library's. (`lookup` has an enum of its own, which has `Io` too: a crate for that one case of
+// two programs would be longer.)
 use std::alloc::AllocError;
 use std::io;
 

@@ -19,8 +19,8 @@ use std::io::{Read, Write};
 // Stdin's bytes; those behind them are not read.
 const TEXT: u64 = 262144;
 
-// Any call, by the number that stands first: each stands here alone, beside what takes its arguments, so an enum of entries would
-// only say it twice. 22 and 23 are no entries of the library.
+// Any call, by the number that stands first: each stands here alone, beside what takes its arguments, so an enum of entries
+// would only say it twice. 22 and 23 are no entries of the library.
 fn call(rt: &(impl Print + AllocGlobal), line: &[u8], state: &mut State) -> Result<(), Fault> {
     let numbers = line::numbers(rt.alloc(), line)?;
     let mut args = Args::new(rt.alloc(), &numbers);

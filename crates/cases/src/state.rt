@@ -127,7 +127,7 @@ impl State {
             *x = number;
         }
         if let Some(x) = self.table.digests.get_mut(at) {
-            *x = (byte % 256) as u8;
+            *x = byte.to_le_bytes()[0];
         }
         print!(rt; "set{}", Shown(&self.table))?;
         Ok(())

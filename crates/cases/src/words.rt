@@ -7,23 +7,36 @@ use abi_builder::database;
 use abi_lines::lines;
 use abi_plain::{bytes, matrix};
 
-// Packing and unpacking are two functions, since a C entry's name is no value that could be passed to one.
-pub(crate) fn compress(rt: &impl Print, mut args: Args<'_>) -> Result<(), Fault> {
+// Packs or unpacks, as the call does that is given.
+fn packed<F: Fn(u32, usize, usize, &[u32], &mut [u32]) -> u32>(
+    rt: &impl Print,
+    mut args: Args<'_>,
+    call: F,
+) -> Result<(), Fault>
+    requires { F.IsAlwaysCallable call }
+{
     let (b, rows, k) = (args.word()?, args.size()?, args.size()?);
     let (words, mut out) = (args.words()?, args.words()?);
     args.end()?;
-    let number = packing::ladletwig_row_wise_compress(b, rows, k, &words, &mut out);
+    let number = call(b, rows, k, &words, &mut out);
     print!(rt; "{number}{}", List(&out))?;
     Ok(())
 }
 
-pub(crate) fn decompress(rt: &impl Print, mut args: Args<'_>) -> Result<(), Fault> {
-    let (b, rows, k) = (args.word()?, args.size()?, args.size()?);
-    let (words, mut out) = (args.words()?, args.words()?);
-    args.end()?;
-    let number = packing::ladletwig_row_wise_decompress(b, rows, k, &words, &mut out);
-    print!(rt; "{number}{}", List(&out))?;
-    Ok(())
+pub(crate) fn compress(rt: &impl Print, args: Args<'_>) -> Result<(), Fault> {
+    packed(
+        rt,
+        args,
+        |b, rows, k, words, out| packing::ladletwig_row_wise_compress(b, rows, k, words, out),
+    )
+}
+
+pub(crate) fn decompress(rt: &impl Print, args: Args<'_>) -> Result<(), Fault> {
+    packed(
+        rt,
+        args,
+        |b, rows, k, words, out| packing::ladletwig_row_wise_decompress(b, rows, k, words, out),
+    )
 }
 
 pub(crate) fn product(rt: &impl Print, mut args: Args<'_>) -> Result<(), Fault> {

@@ -48,7 +48,7 @@ impl Refusal for OpeningRefusal {
 }
 
 // What it tells: the ticket is 0 on a refusal, and so is the count of words read over both samples, but for 6. A struct of
-// its own, since `told_opening` is of it; C gets it beside the table.
+// its own, since `told_opening` is of it; C gets its fields beside the table.
 #[repr(C)]
 #[derive(Clone, Copy)]
 pub struct OpenTold {

@@ -41,8 +41,8 @@ impl Refusal for ReplyingRefusal {
     }
 }
 
-// What it tells: the value's length is 0 on a refusal. A struct of its own, since `told_replying` is of it; C gets it beside
-// the table.
+// What it tells: the value's length is 0 on a refusal. A struct of its own, since `told_replying` is of it; C gets its fields
+// beside the table.
 #[repr(C)]
 #[derive(Clone, Copy)]
 pub struct ReplyTold {

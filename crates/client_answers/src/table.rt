@@ -3,7 +3,7 @@ ghost use Rattle.client_answers.specs.Table.{making_refusal, making_refuses};
 
 use answers::refusal::Refusal;
 
-// Why a new table is refused.
+// Why a new table is refused. (The cases of packing's, in an enum of its own, as `answers::refusal` says.)
 #[derive(Clone, Copy, Debug, PartialEq, Eq)]
 pub enum MakingRefusal {
     // 1: b is outside 4..=14.

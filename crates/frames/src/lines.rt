@@ -1,6 +1,5 @@
-// Document 01, "Lines": a frame as one line of lowercase hexadecimal. A terminal writes queries (kind 1) and reads responses
-// (kind 2), its host the other way round, so the kind is a parameter here; `terminal` fixes it. It is any byte and no enum:
-// the clauses with `write_line_after` and `read_line_after` speak of every kind.
+// Document 01, "Lines": a frame as one line of lowercase hexadecimal. A terminal writes queries and reads responses, its host
+// the other way round, so the kind is a parameter here; `terminal` fixes it.
 ghost use Rattle.std.specs.Prelude.{◌≡◌, true, false, [], ◌∷◌, ◌+◌, ◌*◌, ◌/◌, ◌%◌, ◌<◌, ◌≤◌, length, get_or, eqb, is_none, IfSome, MatchResult};
 ghost use Rattle.laws.specs.Lists.{laid};
 ghost use Rattle.plain.specs.Bytes.{word_bytes, all_bytes, word_at};
@@ -14,6 +13,11 @@ pub use answers::lines::{ReadingRefusal, WritingRefusal};
 use leaves::limits;
 use plain::bytes;
 
+// The kinds, which a frame's first byte says: bytes and no enum, since the clauses with `write_line_after` and
+// `read_line_after` speak of every kind.
+pub const QUERY: u8 = 1;
+
+pub const RESPONSE: u8 = 2;
 // The digits of a word.
 const WORD_DIGITS: usize = 8;
 // The digits of a frame before its words: kind, ticket, rows, columns.
@@ -58,7 +62,8 @@ fn put_word_digits(x: u32, part: &mut [u8])
     put_bytes_digits(&x.to_le_bytes(), part);
 }
 
-// Word after word, by places for the same reason. (One function for both, over a closure and its clause, would be longer.)
+// Word after word, by places for the same reason. (One function for this, the bytes and plain's `put_words` would have a
+// `requires`, as plain's `column` says; one for this and the bytes would be longer.)
 fn put_words_digits(words: &[u32], part: &mut [u8])
     requires { length part.old ≡ length words.now * 8 }
     ensures { part.new ≡ hex (all_bytes words.now) }
@@ -83,7 +88,8 @@ fn put_frame(kind: u8, ticket: u32, words: &[u32], out: &mut [u8])
     out[end] = b'\n';
 }
 
-// Writes a line of this kind into the start of `out`.
+// Writes a line of this kind into the start of `out`. (Its length comes back, here and below, and no part of the buffer: C
+// takes lengths, and the clauses say them.)
 #[tactic(auto, unfolding(crate::specs::Lines::write_line_number))]
 pub fn write_line(
     kind: u8,
@@ -187,7 +193,7 @@ fn whole<'a>(kind: u8, line: &'a [u8]) -> Result<Text<'a>, ReadingRefusal>
     Ok(text)
 }
 
-// The line's words: `out` has exactly that many. (Two lines, as in `plain`: a closure's clause would be longer.)
+// The line's words: `out` has exactly that many. (Two lines, as in plain's `column`.)
 fn read_words(text: &Text, out: &mut [u32])
     requires { (length out.old * 8 + 26 < length text.now.line.now) × (length out.old ≡ line_columns text.now.line.now) }
     ensures { out.new ≡ line_words text.now.line.now }

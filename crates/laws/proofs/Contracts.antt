@@ -1,6 +1,8 @@
 -- How two results of one contract are shown to be one.
 use mathlib.Core.Path.{◌≡◌, refl, sym, ap, ◌∙◌, ◌∙⁻¹◌}
 use Prim.Native.Nat.{ℕ, zero, suc}
+use Rattle.std.specs.Prelude.{Option, Some, None, MatchOption}
+use Rattle.std.specs.Option.{option_map}
 use seplogic.Ra.Ura.{Ura}
 use base.Logic.{SProp, ent, sep, via, fst∗, snd∗}
 use contract.Monad.{conj, conj_l, conj_r, fact, fact_i, fact_use}
@@ -9,6 +11,15 @@ use contract.Monad.{conj, conj_l, conj_r, fact, fact_i, fact_use}
 pub told_apart : {A B : Type 0} (said : A → B) (told : B → A) → ((x : A) → told (said x) ≡ x) → {r s : A}
     → said r ≡ said s → r ≡ s
 told_apart said told back {r} {s} e = sym (back r) ∙ ap told e ∙ back s
+
+-- A maker answers an Option of a value that is told by a part of it: of two that one clause allows the same is told.
+pub same_told : {A B P : Type 0} {Q : A → Type 0} (told : A → B) → (P → (x : A) → ¬ (Q x))
+    → ((x y : A) → Q x → Q y → told x ≡ told y)
+    → (x y : Option A) → MatchOption x P Q → MatchOption y P Q → option_map told x ≡ option_map told y
+same_told told apart same None None p q = refl
+same_told told apart same None (Some y) p q = absurd (apart p y q)
+same_told told apart same (Some x) None p q = absurd (apart q x p)
+same_told told apart same (Some x) (Some y) p q = ap Some (same x y p q)
 
 -- The last values of a function's parameters: one equation for each `&mut` buffer, `refl` for their end, and `skip n` for n
 -- parameters that are not lent to be written, and so have none.

@@ -7,7 +7,9 @@ use native.Mathlib.Numerals.{add-one}
 use native.Mathlib.Omega.{arith}
 use native.Mathlib.Decide.{dec_le, dec_lt}
 use lib.ListN.{length, get_or, take, drop, replicate, length-append, length-take, length-drop, get_or-append}
-use lib.Seq.{get_or_at, get_or-take, get_or-drop, ext_get_or, take-append-le, drop-append-le, drop_at, take_all}
+use Rattle.std.specs.Prelude.{slice_index_or}
+use Rattle.std.specs.Simd.{first_chunks}
+use lib.Seq.{drop-drop, get_or_at, get_or-take, get_or-drop, ext_get_or, take-append-le, drop-append-le, drop_at, take_all}
 use Rattle.laws.specs.Lists.{build, join, part, row}
 
 -- the last of n blocks of k ends inside them
@@ -32,6 +34,14 @@ row_lent k j m = let e : j * k + k - j * k ≡ k = omega arith in rw e
 
 pub length-row : {A : Type 0} (k n j : ℕ) (m : List A) → n * k ≤ length m → j < n → length (row k m j) ≡ k
 length-row k n j m h l = length_part (j * k) k m (omega (arith, room j n k l))
+
+-- a list cut into n chunks of k has row s as its chunk s
+pub chunk_row : {A : Type 0} (k n s : ℕ) (xs : List A) → s < n → slice_index_or (first_chunks k n xs) s [] ≡ row k xs s
+chunk_row k zero s xs h = absurd (omega arith)
+chunk_row k (suc n) zero xs h = sym (ap (λ m. take k (drop m xs)) (zero-mul k))
+chunk_row k (suc n) (suc s) xs h =
+    chunk_row k n s (drop k xs) (omega arith)
+    ∙ ap (take k) (drop-drop (s * k) k xs ∙ ap (λ m. drop m xs) (omega arith))
 
 -- a part that runs past the end is what is left
 pub part_short : {A : Type 0} (at n : ℕ) (xs : List A) → at ≤ length xs → part at (min (at + n) (length xs) - at) xs ≡ part at n xs

@@ -1,22 +1,21 @@
 -- Two results that a leaf's own contract allows for one input coincide: what is answered, and what is written, is a definition's
 -- value.
-use mathlib.Core.Path.{◌≡◌, refl, sym, ap, ◌∙◌, ◌∙⁻¹◌}
-use mathlib.Core.Bool.{true, false, true≢false}
-use Rattle.std.specs.Prelude.{ℕ, Option, Some, None, MatchOption}
-use Rattle.laws.specs.Refusals.{width_bad}
-use Rattle.leaves.specs.declared.width.Width.{Width}
+use mathlib.Core.Path.{refl, sym, ◌∙◌, ◌∙⁻¹◌}
+use mathlib.Core.Bool.{true≢false}
+use Rattle.std.specs.Option.{option_map}
 use denote.RattleType.{RattleType}
 use denote.Struct.Field.{u8-field}
 use mir.Syntax.{Dict}
 use Rattle.std.specs.declared.clone.Clone.{Ghosts}
 use denote.Param.Laws.{Laws, IsCopy}
 use Rattle.laws.specs.Uniqueness.{AllowsOne, TellsOne}
-use Rattle.laws.proofs.Contracts.{◌&◌, skip}
+use Rattle.laws.proofs.Contracts.{◌&◌, skip, same_told}
 use Rattle.leaves.proofs.limits.out_of
 use Rattle.leaves.proofs.limits.width_bad
 use Rattle.leaves.proofs.limits.any_above
 use Rattle.leaves.proofs.positions.positions_bad
 use Rattle.leaves.proofs.digests.digest_differs
+use Rattle.leaves.proofs.interval.Interval.new as interval
 use Rattle.leaves.proofs.rounding.calculate_query_indicator as indicator
 use Rattle.leaves.proofs.rounding.modulus
 use Rattle.leaves.proofs.rounding.rounded
@@ -77,19 +76,11 @@ width_greatest_settled κs a x y v w p q = (p ∙⁻¹ q, refl)
 pub width_delta_settled : AllowsOne width_delta.Kinds.ps width_delta.Kinds.r width_delta.Reads.Post
 width_delta_settled κs a x y v w p q = (p ∙⁻¹ q, refl)
 
--- a width is its bits: that they are 4 to 14 is a fact of its type
-abbrev bits_of : Option Width → Option ℕ
-bits_of None = None
-bits_of (Some w) = Some w.bits
+-- a width is its bits, and an interval its value: that they are within their limits is a fact of their types
+pub width_settled : TellsOne width.Kinds.ps width.Kinds.r width.Reads.Post (λ κs w. option_map (λ t. t.bits) w)
+width_settled κs a x y v w p q =
+    (same_told (λ t. t.bits) (λ e t f. true≢false (sym e ∙ f.1)) (λ t u f g. f.0 ∙⁻¹ g.0) x y p q, refl)
 
-same_bits : (b : ℕ) (x y : Option Width)
-    → MatchOption x (width_bad b ≡ true) (λ w. (w.bits ≡ b) × (width_bad b ≡ false))
-    → MatchOption y (width_bad b ≡ true) (λ w. (w.bits ≡ b) × (width_bad b ≡ false))
-    → bits_of x ≡ bits_of y
-same_bits b None None p q = refl
-same_bits b None (Some w) p q = absurd (true≢false (sym p ∙ q.1))
-same_bits b (Some w) None p q = absurd (true≢false (sym q ∙ p.1))
-same_bits b (Some w) (Some v) p q = ap Some (p.0 ∙⁻¹ q.0)
-
-pub width_settled : TellsOne width.Kinds.ps width.Kinds.r width.Reads.Post (λ κs w. bits_of w)
-width_settled κs a x y v w p q = (same_bits a.0 x y p q, refl)
+pub interval_settled : TellsOne interval.Kinds.ps interval.Kinds.r interval.Reads.Post (λ κs i. option_map (λ t. t.value) i)
+interval_settled κs a x y v w p q =
+    (same_told (λ t. t.value) (λ e t f. true≢false (sym e ∙ f.1)) (λ t u f g. f.0 ∙⁻¹ g.0) x y p q, refl)

@@ -1,4 +1,5 @@
--- The leaves of document 01, one module for each but `width`, whose clauses say its numbers outright. What a reader must believe stands here.
+-- The leaves of document 01, one module for each but `width` and `interval`, whose clauses say their numbers outright. What a
+-- reader must believe stands here.
 pub mod Limits
 pub mod Positions
 pub mod Digests

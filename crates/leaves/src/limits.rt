@@ -20,7 +20,7 @@ pub const INTERVAL_MOST: usize = 1431655765;
 pub fn out_of(lo: usize, hi: usize, x: usize) -> bool
     ensures { result ≡ outside lo hi x }
 {
-    x < lo || hi < x
+    !(lo..=hi).contains(&x)
 }
 
 // 1: is b outside 4..=14?

@@ -7,12 +7,7 @@ ghost use Rattle.leaves.specs.Positions.{positions_bad};
 fn repeats(ps: [u32; 4]) -> bool
     ensures { result ≡ some 4 (λ s. some s (λ t. eqb (get_or ps t 0) (get_or ps s 0))) }
 {
-    for (s, p) in ps.iter().enumerate() {
-        if ps[..s].contains(p) {
-            return true;
-        }
-    }
-    false
+    (0..ps.len()).any(|s| ps[..s].contains(&ps[s]))
 }
 
 // 5's sense: is a position r or more, or are two equal?

@@ -19,10 +19,7 @@ pub fn calculate_query_indicator(b: u32) -> u32
 pub fn modulus(b: u32) -> u32
     ensures { result ≡ modulus_of b }
 {
-    if 31 < b {
-        return 0;
-    }
-    1 << b
+    1u32.checked_shl(b).unwrap_or(0)
 }
 
 // The quotient by Δ, one more exactly when the remainder exceeds Δ/2, modulo 2^b. Where b is 0 there is one residue alone;

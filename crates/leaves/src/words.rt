@@ -1,5 +1,5 @@
-// Words and bytes: lent ones wiped or copied, and the product of two words. The library has each today; what is public stays,
-// under its own contract.
+// Words and bytes: lent ones wiped or copied, and the product of two words. The library has these today (but for `copy`, which
+// leaves an output that is too short as it is); what is public stays, under its own contract.
 ghost use Rattle.std.specs.Prelude.{◌≡◌};
 ghost use Rattle.leaves.specs.Words.{zeroed, copied, times_word};
 

@@ -7,9 +7,9 @@ use std::{fmt, io};
 #[derive(Clone, Copy, Debug)]
 pub(crate) struct Refused(pub(crate) u32);
 
-impl Refused {
-    // Why a call of the library refuses, by its number.
-    pub(crate) fn because<R: Refusal>(reason: R) -> Refused {
+// Why a call of the library refuses, by its number.
+impl<R: Refusal> From<R> for Refused {
+    fn from(reason: R) -> Refused {
         Refused(reason.number())
     }
 }
@@ -38,6 +38,7 @@ impl Display for Refused {
     }
 }
 
+// Why this run ends. (`cases` has an enum of its own.)
 #[derive(Debug, Drop)]
 pub(crate) enum Fault {
     // A call that this run counts on.

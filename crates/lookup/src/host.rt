@@ -9,17 +9,12 @@ use view::packed;
 
 pub(crate) type Response = [u8; 291];
 
-// What a frame's first byte says.
-const QUERY: u8 = 1;
-
-const RESPONSE: u8 = 2;
-
 // One column of D, so that a reader sees what the host does. The store is read as a view of its words: b 10, and 33 rows,
 // each a column of D.
 pub(crate) fn show(rt: &impl Print) -> Result<(), Fault> {
     let words = store::packed()?;
     let mut elements = [0; 231];
-    packed::unpack(packed::view(10, 33, 7, &words), &mut elements).map_err(Refused::because)?;
+    packed::unpack(packed::view(10, 33, 7, &words), &mut elements).map_err(Refused::from)?;
     print!(rt; "The host sees numbers without names, in its first column of 33:")?;
     for x in &elements[..7] {
         print!(rt; " {x}")?;
@@ -31,14 +26,12 @@ pub(crate) fn show(rt: &impl Print) -> Result<(), Fault> {
 // The response to a query line: the product of its words with the store, under its ticket.
 fn respond(query: &[u8]) -> Result<Response, Refused> {
     let mut words = [0; 7];
-    let (ticket, _) = lines::read_line(QUERY, query, &mut words).map_err(Refused::because)?;
+    let (ticket, _) = lines::read_line(lines::QUERY, query, &mut words)?;
     let store = store::packed()?;
     let mut product = [0; 33];
-    packed::multiply(&words, packed::view(10, 33, 7, &store), &mut product).map_err(
-        Refused::because,
-    )?;
+    packed::multiply(&words, packed::view(10, 33, 7, &store), &mut product)?;
     let mut line = [0; 291];
-    lines::write_line(RESPONSE, ticket, &product, &mut line).map_err(Refused::because)?;
+    lines::write_line(lines::RESPONSE, ticket, &product, &mut line)?;
     Ok(line)
 }
 

@@ -55,9 +55,7 @@ pub(crate) const PUBLIC_MATRIX: [u32; 21] = [
 fn rows() -> Result<[u32; 99], Refused> {
     let mut rows = [0; 99];
     for (member, row) in MEMBERS.iter().zip(rows.chunks_exact_mut(33)) {
-        codec::encode_kv_as_row(10, 33, member.digest(), member.value(), row).map_err(
-            Refused::because,
-        )?;
+        codec::encode_kv_as_row(10, 33, member.digest(), member.value(), row)?;
     }
     Ok(rows)
 }
@@ -76,25 +74,22 @@ fn elements() -> Result<[u32; 231], Refused> {
         places.as_flattened(),
         &[0, 3, 2],
         &mut d,
-    )
-    .map_err(Refused::because)?;
+    )?;
     Ok(d)
 }
 
 // The hint AD, n rows of C words.
 pub(crate) fn hint() -> Result<[u32; 99], Refused> {
     let mut h = [0; 99];
-    matrix::plain_product(3, 7, 33, &PUBLIC_MATRIX, &elements()?, &mut h).map_err(
-        Refused::because,
-    )?;
+    matrix::plain_product(3, 7, 33, &PUBLIC_MATRIX, &elements()?, &mut h)?;
     Ok(h)
 }
 
 // The host's store: the columns of D as rows, packed, three elements to a word.
 pub(crate) fn packed() -> Result<[u32; 99], Refused> {
     let mut columns = [0; 231];
-    matrix::transpose(7, 33, &elements()?, &mut columns).map_err(Refused::because)?;
+    matrix::transpose(7, 33, &elements()?, &mut columns)?;
     let mut words = [0; 99];
-    packing::row_wise_compress(10, 33, 7, &columns, &mut words).map_err(Refused::because)?;
+    packing::row_wise_compress(10, 33, 7, &columns, &mut words)?;
     Ok(words)
 }

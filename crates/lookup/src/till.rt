@@ -68,7 +68,7 @@ pub(crate) struct Till {
 impl Till {
     pub(crate) fn new() -> Result<Till, Refused> {
         Ok(Till {
-            table: table::fresh(10, 33).map_err(Refused::because)?,
+            table: table::fresh(10, 33)?,
             slab: [0; 2112],
         })
     }
@@ -92,7 +92,7 @@ impl Till {
             &mut query,
         );
         self.table = opened.table;
-        let (ticket, _) = opened.answer.map_err(Refused::because)?;
+        let (ticket, _) = opened.answer?;
         Ok((ticket, query))
     }
 
@@ -100,7 +100,7 @@ impl Till {
     pub(crate) fn ask(&mut self, rt: &impl Print, open: Open) -> Result<Query, Fault> {
         let (ticket, query) = self.open(open)?;
         let mut line = [0; 83];
-        lines::write_query_line(ticket, &query, &mut line).map_err(Refused::because)?;
+        lines::write_query_line(ticket, &query, &mut line).map_err(Refused::from)?;
         print!(rt; "  ticket    {ticket}\n  terminal  ")?;
         io::writer(rt).write_all(&line)?;
         Ok(line)
@@ -109,34 +109,34 @@ impl Till {
     pub(crate) fn discard(&mut self, rt: &impl Print, ticket: u32) -> Result<(), Fault> {
         let discarded = discard::discard_query(self.table, &mut self.slab, ticket);
         self.table = discarded.table;
-        discarded.answer.map_err(Refused::because)?;
+        discarded.answer.map_err(Refused::from)?;
         println!(rt; "  discarded {ticket}")?;
         Ok(())
     }
 
-    // Lays the value that a response line brings, and answers its length.
-    fn value(&mut self, line: &[u8], value: &mut [u8]) -> Result<usize, Refused> {
+    // The value that a response line brings, at the start of `room`.
+    fn value<'r>(&mut self, line: &[u8], room: &'r mut [u8]) -> Result<&'r [u8], Refused> {
         let mut words = [0; 33];
-        let (ticket, _) = lines::read_response_line(line, &mut words).map_err(Refused::because)?;
+        let (ticket, _) = lines::read_response_line(line, &mut words)?;
         let replied = reply::process_response(
             self.table,
             &mut self.slab,
             ticket,
             &words,
             &[600; 33],
-            value,
+            room,
         );
         self.table = replied.table;
-        replied.answer.map_err(Refused::because)
+        let length = replied.answer?;
+        Ok(room.get(..length).unwrap_or(room))
     }
 
     // A line comes: the value, or why there is none.
     pub(crate) fn come(&mut self, rt: &impl Print, line: &[u8]) -> io::Result<()> {
-        let mut value = [0; 8];
-        match self.value(line, &mut value) {
-            Ok(length) => {
+        match self.value(line, &mut [0; 8]) {
+            Ok(value) => {
                 print!(rt; "  value     ")?;
-                io::writer(rt).write_all(value.get(..length).unwrap_or(&value))?;
+                io::writer(rt).write_all(value)?;
                 println!(rt; "")
             }
             Err(reason) => println!(rt; "  refused   {reason}"),

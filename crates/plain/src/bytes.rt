@@ -22,6 +22,7 @@ pub fn put_word(x: u32, part: &mut [u8])
 }
 
 // Word after word, by places: the proof did not close over `chunks_exact_mut`, whose loop has no name for what it has written.
+// (frames has the like for digits; one function for all would have a `requires`, as `matrix::column` says.)
 fn put_words(words: &[u32], out: &mut [u8])
     requires { length out.old ≡ length words.now * 4 }
     ensures { out.new ≡ all_bytes words.now }
@@ -114,7 +115,7 @@ fn dimensions(bytes: &[u8], room: usize) -> Result<(usize, usize), ParsingRefusa
     Ok((rows, columns))
 }
 
-// Words from the third on, as many as `out` has room for. (Two lines: a closure and its clause would be longer.)
+// Words from the third on, as many as `out` has room for. (Two lines, as in `matrix::column`.)
 fn read_words(bytes: &[u8], out: &mut [u32])
     requires { 8 + 4 * length out.old ≤ length bytes.now }
     ensures { out.new ≡ build (length out.old) (λ q. word_at bytes.now (2 + q)) }

@@ -67,7 +67,8 @@ impl<'a> Matrix<'a> {
     }
 }
 
-// A row of the left matrix times column j of the right one.
+// A row of the left matrix times column j of the right one. (By place: a column lies nowhere as a slice. That the row is as
+// long as the right has rows is said here and in two more, of a row and of the matrices: no one struct is for the three.)
 fn cell_sum(row: &[u32], right: &Matrix, j: usize) -> u32
     requires { (length row.now ≡ right.now.rows) × (j < right.now.columns) }
     ensures { result ≡ sum right.now.rows (λ t. slice_index row.now t * cell right.now.columns right.now.words.now t j) % 2 ^ 32 }
@@ -79,7 +80,7 @@ fn cell_sum(row: &[u32], right: &Matrix, j: usize) -> u32
     acc
 }
 
-// One row of the product. (Two lines, as in `column`: a closure and its clause would be longer.)
+// One row of the product. (Two lines, as in `column`.)
 fn row_times(row: &[u32], right: &Matrix, out: &mut [u32])
     requires { (length row.now ≡ right.now.rows) × (length out.old ≡ right.now.columns) }
     ensures { out.new ≡ build right.now.columns (λ j. sum right.now.rows (λ t. slice_index row.now t * cell right.now.columns right.now.words.now t j) % 2 ^ 32) }
@@ -123,7 +124,9 @@ pub fn plain_product(
     Ok(())
 }
 
-// Column j of a matrix.
+// Column j of a matrix. (Two lines, which fill an output from its places. Such stand in six functions more, of four crates,
+// each with its own work. One function for all would be public and over a closure, and so have a `requires`, that it may be
+// called; no public function has one. One for the few of a crate would be longer than the lines that they share.)
 fn column(matrix: &Matrix, j: usize, out: &mut [u32])
     requires { (j < matrix.now.columns) × (length out.old ≡ matrix.now.rows) }
     ensures { out.new ≡ build matrix.now.rows (λ i. cell matrix.now.columns matrix.now.words.now i j) }

@@ -4,10 +4,11 @@ ghost use Rattle.replies.specs.Discard.{discard_number, discard_table, discard_s
 ghost use Rattle.client_answers.specs.Discard.{discarding_number};
 
 pub use client_answers::discard::DiscardingRefusal;
-use pending::table::{SLOTS, Table};
+use pending::table::Table;
 use tickets::slots;
 
-// The table comes back from a refusal too. One struct for it and for a reply would need a parameter, and specs/ their names.
+// No Result: the table comes back on a refusal too. (One generic struct for this and `Replied` would be no shorter: each
+// clause and `reply_said` would have to name its parameter.)
 #[derive(Clone, Copy)]
 pub struct Discarded {
     pub answer: Result<(), DiscardingRefusal>,
@@ -15,14 +16,14 @@ pub struct Discarded {
 }
 
 // 18, 2, 10: the order that document 01 gives.
-#[tactic(auto, using(pending::proofs::table::Formed::few_columns), unfolding(crate::specs::Discard::discard_number))]
+#[tactic(auto, unfolding(crate::specs::Discard::discard_number))]
 fn check(table: &Table, slab: usize, ticket: u32) -> Result<(), DiscardingRefusal>
     ensures { discarding_number result ≡ discard_number table.now slab ticket }
 {
     if table.is_malformed() {
         return Err(DiscardingRefusal::Table);
     }
-    if slab != SLOTS * table.columns {
+    if table.slab_bad(slab) {
         return Err(DiscardingRefusal::Shape);
     }
     if !table.is_pending(ticket) {

@@ -31,7 +31,8 @@ fn bit(x: u32, i: usize) -> u32
     (x >> i) & 1
 }
 
-// The number of w bits whose bits, lowest first, are what `bit_at` gives from `at` on: the bits that f says, for any such f.
+// The number of w bits whose bits, lowest first, are what `bit_at` gives from `at` on, each weighed by its place. (The clause:
+// whatever f agrees with `bit_at` there, the number is the one gathered from f.)
 fn gather<F: Fn(usize) -> u32>(w: usize, at: usize, bit_at: F) -> u32
     requires few { (w ≤ 14) × (at ≤ 7168) }
     requires callable { (k : ℕ) → at ≤ k → k < at + w → F.pre bit_at k }
@@ -44,20 +45,13 @@ fn gather<F: Fn(usize) -> u32>(w: usize, at: usize, bit_at: F) -> u32
     word
 }
 
-// 2: C outside 1..=512, or C·b below 264. C is tested before the product is taken, which then fits for any b.
+// 2: C outside 1..=512, or C·b below 264. C is tested before the product is taken, which then fits for any b. (b and columns
+// are the C interface's parameters, and go through all of this file's entries.)
 #[tactic(auto, unfolding(crate::specs::Codec::columns_bad))]
 pub fn columns_bad(b: u32, columns: usize) -> bool
     ensures { result ≡ columns_bad b columns }
 {
     limits::out_of(1, limits::COLUMNS_MOST, columns) || columns * (b as usize) < BITS_LEAST
-}
-
-// The whole bytes of a row.
-fn bytes_in(b: u32, columns: usize) -> usize
-    requires { columns ≤ 512 }
-    ensures { result ≡ bytes_in b columns }
-{
-    columns * (b as usize) / 8
 }
 
 // The longest value that a row has room for, beside digest and marker; 0 where the columns are refused, and no Option: the
@@ -69,44 +63,50 @@ pub fn value_room(b: u32, columns: usize) -> usize
     if columns_bad(b, columns) {
         return 0;
     }
-    bytes_in(b, columns) - BESIDE_VALUE
+    columns * (b as usize) / 8 - BESIDE_VALUE
 }
 
-// Byte m of the record: the digest, the value, the marker, and zeros without end, so that all further bits are written
-// zero, up to the last whole byte and past it. Digest and value are no struct: lent, it costs the writer a fifth of its speed.
-fn record_byte(digest: [u8; 32], value: &[u8], m: usize) -> u8
-    ensures { result ≡ get_or (digest ++ (value.now ++ (129 ∷ []))) m 0 }
-{
-    if m < DIGEST {
-        return digest[m];
+// What a row holds: digest and value, with the marker and zeros behind them. (It goes about lent: by value the writer is
+// slower.)
+#[derive(Drop)]
+struct Record<'a> {
+    digest: [u8; 32],
+    value: &'a [u8],
+}
+
+impl Record<'_> {
+    // Byte m: the digest, the value, the marker, and zeros without end, so that all further bits are written zero, up to the
+    // last whole byte and past it.
+    fn byte(&self, m: usize) -> u8
+        ensures { result ≡ get_or (self.now.digest ++ (self.now.value.now ++ (129 ∷ []))) m 0 }
+    {
+        if m < DIGEST {
+            return self.digest[m];
+        }
+        let i = m - DIGEST;
+        if i < self.value.len() {
+            return self.value[i];
+        }
+        if i == self.value.len() { MARKER } else { 0 }
     }
-    let i = m - DIGEST;
-    if i < value.len() {
-        return value[i];
+
+    // Element j of the row: the b bits from bit j·b on.
+    fn element(&self, width: Width, j: usize) -> u32
+        requires { j < 512 }
+        ensures { result ≡ gathered width.bits (bit_of 8 (self.now.digest ++ (self.now.value.now ++ (129 ∷ [])))) (j * width.bits) }
+    {
+        let w = width.bits as usize;
+        gather(w, j * w, |k| bit(u32::from(self.byte(k / 8)), k % 8))
     }
-    if i == value.len() { MARKER } else { 0 }
-}
 
-// Element j of the row: the b bits of the record from bit j·b on.
-fn element_at(width: Width, digest: [u8; 32], value: &[u8], j: usize) -> u32
-    requires { j < 512 }
-    ensures { result ≡ gathered width.bits (bit_of 8 (digest ++ (value.now ++ (129 ∷ [])))) (j * width.bits) }
-{
-    let w = width.bits as usize;
-    gather(
-        w,
-        j * w,
-        |k| bit(u32::from(record_byte(digest, value, k / 8)), k % 8),
-    )
-}
-
-// The row, element after element. (Two lines, as in `Row::read`: a closure and its clause would be longer.)
-fn write_row(width: Width, digest: [u8; 32], value: &[u8], out: &mut [u32])
-    requires { length out.old ≤ 512 }
-    ensures { out.new ≡ row_of width.bits (length out.old) digest value.now }
-{
-    for (j, element) in out.iter_mut().enumerate() {
-        *element = element_at(width, digest, value, j);
+    // The row, element after element. (Two lines, as in plain's `column`.)
+    fn write(&self, width: Width, out: &mut [u32])
+        requires { length out.old ≤ 512 }
+        ensures { out.new ≡ row_of width.bits (length out.old) self.now.digest self.now.value.now }
+    {
+        for (j, element) in out.iter_mut().enumerate() {
+            *element = self.element(width, j);
+        }
     }
 }
 
@@ -130,7 +130,7 @@ pub fn encode_kv_as_row(
     if value_room(b, columns) < value.len() {
         return Err(EncodingRefusal::TooLong);
     }
-    write_row(width, digest, value, &mut out[..columns]);
+    Record { digest, value }.write(width, &mut out[..columns]);
     Ok(())
 }
 
@@ -143,6 +143,13 @@ struct Row<'a> {
 }
 
 impl Row<'_> {
+    // Its whole bytes.
+    fn bytes(&self) -> usize
+        ensures { result ≡ bytes_in self.now.width.bits (length self.now.elements.now) }
+    {
+        self.elements.len() * (self.width.bits as usize) / 8
+    }
+
     // Byte m: the 8 bits from bit 8·m on.
     fn byte(&self, m: usize) -> u8
         requires { m < bytes_in self.now.width.bits (length self.now.elements.now) }
@@ -152,7 +159,7 @@ impl Row<'_> {
         gather(8, m * 8, |k| bit(self.elements[k / w], k % w)) as u8
     }
 
-    // Fills `out` with the bytes from byte `from` on.
+    // Fills `out` with the bytes from byte `from` on. (Two lines, as in plain's `column`.)
     fn read(&self, from: usize, out: &mut [u8])
         requires { from + length out.old ≤ bytes_in self.now.width.bits (length self.now.elements.now) }
         ensures { out.new ≡ part from (length out.old) (bytes_of self.now.width.bits (length self.now.elements.now) self.now.elements.now) }
@@ -169,13 +176,8 @@ impl Row<'_> {
             × (at ≡ marker_at self.now.width.bits (length self.now.elements.now) self.now.elements.now)
             × (marker_bad self.now.width.bits (length self.now.elements.now) self.now.elements.now ≡ false)) }
     {
-        for at in (DIGEST..bytes_in(self.width.bits, self.elements.len())).rev() {
-            let byte = self.byte(at);
-            if byte != 0 {
-                return (byte == MARKER).then_some(at);
-            }
-        }
-        None
+        let at = (DIGEST..self.bytes()).rev().find(|at| self.byte(*at) != 0)?;
+        (self.byte(at) == MARKER).then_some(at)
     }
 }
 
@@ -187,7 +189,8 @@ fn reader_bad(b: u32, columns: usize, row: usize, digest: usize, value: usize) -
     columns_bad(b, columns) || row != columns || digest < DIGEST || value < value_room(b, columns)
 }
 
-// Reads a row: its digest into the start of `digest`, its value into the start of `value`. The answer is the value's length.
+// Reads a row: its digest into the start of `digest`, its value into the start of `value`. The answer is the value's length, as
+// C takes it and the clause `length` has it.
 #[tactic(auto, using(crate::proofs::codec::Sizes::sized), unfolding(crate::specs::Codec::decode_number, crate::specs::Codec::reader_bad))]
 pub fn decode_kv_from_row(
     b: u32,

@@ -1,53 +1,46 @@
 // Document 01, "Ternary sampler": random words to 0, 1 and -1, of which 0 has one word more than the others.
-ghost use Rattle.std.specs.Prelude.{◌≡◌, ◌≤◌, [], ◌∷◌, length};
+ghost use Rattle.std.specs.Prelude.{◌≡◌, [], ◌∷◌, length};
 ghost use Rattle.laws.specs.Refusals.{first, ◌⇒◌, after};
 ghost use Rattle.samples.specs.Sampler.{ternary, given, too_few, shortest};
 ghost use Rattle.samples.specs.Sampler.{sample_number, sample_read, sample_after, sample_tail};
 ghost use Rattle.answers.specs.Sampler.{sampling_number, sampling_read};
 
 pub use answers::sampler::SamplingRefusal;
+use leaves::interval::Interval;
 use leaves::limits;
 
 // The value of an accepted word.
 #[tactic(auto, unfolding(crate::specs::Sampler::ternary))]
-fn value_of(interval: u32, x: u32) -> u32
-    requires { interval ≤ 1431655765 }
-    ensures { result ≡ ternary interval x }
+fn value_of(interval: Interval, x: u32) -> u32
+    ensures { result ≡ ternary interval.value x }
 {
-    if x <= interval {
+    if x <= interval.value {
         0
-    } else if x <= 2 * interval {
+    } else if x <= 2 * interval.value {
         1
     } else {
         u32::MAX // -1
     }
 }
 
-// The shortest start of the words that holds enough, or 3. Nothing is written before this is known. (`filter` and `nth` would
-// have to take none wanted apart.)
-fn count_read(interval: u32, wanted: usize, words: &[u32]) -> Result<usize, SamplingRefusal>
-    requires { interval ≤ 1431655765 }
-    ensures number { sampling_number result ≡ first (too_few interval wanted words.now ⇒ 3 ∷ []) }
-    ensures read { sampling_read result ≡ after (sampling_number result) (shortest interval wanted words.now) 0 }
+// The shortest start of the words that holds enough, or 3: it ends at the accepted word that is the last wanted. Nothing is
+// written before this is known.
+fn count_read(interval: Interval, wanted: usize, words: &[u32]) -> Result<usize, SamplingRefusal>
+    ensures number { sampling_number result ≡ first (too_few interval.value wanted words.now ⇒ 3 ∷ []) }
+    ensures read { sampling_read result ≡ after (sampling_number result) (shortest interval.value wanted words.now) 0 }
 {
-    let greatest = 3 * interval;
-    let mut got = 0;
-    for (seen, x) in words.iter().enumerate() {
-        if got == wanted {
-            return Ok(seen);
-        }
-        if *x <= greatest {
-            got += 1;
-        }
+    if wanted == 0 {
+        return Ok(0);
     }
-    if got < wanted {
-        return Err(SamplingRefusal::Short);
-    }
-    Ok(words.len())
+    let greatest = 3 * interval.value;
+    let mut accepted = words.iter().enumerate().filter(|(_, x)| **x <= greatest);
+    let (last, _) = accepted.nth(wanted - 1).ok_or(SamplingRefusal::Short)?;
+    Ok(last + 1)
 }
 
 // The whole answer, known before anything is written: 2, 4, 3 in this order, or the count of words to read.
 // It is public because the client counts the words of both its samples before it writes anything.
+#[tactic(auto, unfolding(crate::specs::Sampler::sample_number))]
 pub fn words_to_read(interval: u32, wanted: usize, words: &[u32]) -> Result<usize, SamplingRefusal>
     ensures number { sampling_number result ≡ sample_number interval wanted words.now }
     ensures read { sampling_read result ≡ sample_read interval wanted words.now }
@@ -55,19 +48,16 @@ pub fn words_to_read(interval: u32, wanted: usize, words: &[u32]) -> Result<usiz
     if wanted > limits::ROWS_MOST {
         return Err(SamplingRefusal::Shape);
     }
-    if limits::out_of(1, limits::INTERVAL_MOST, interval as usize) {
-        return Err(SamplingRefusal::Interval);
-    }
+    let interval = Interval::new(interval).ok_or(SamplingRefusal::Interval)?;
     count_read(interval, wanted, words)
 }
 
-// Writes the value of each accepted word. (By places: what is written through an adapter of `iter_mut` is lost to the prover.)
-fn fill(interval: u32, words: &[u32], out: &mut [u32])
-    requires interval_bound { interval ≤ 1431655765 }
-    requires words_len { length (given interval words.now) ≡ length out.old }
-    ensures { out.new ≡ given interval words.now }
+// Writes the value of each accepted word. (By places: what a loop writes through `zip` over `iter_mut` is lost to the prover.)
+fn fill(interval: Interval, words: &[u32], out: &mut [u32])
+    requires { length (given interval.value words.now) ≡ length out.old }
+    ensures { out.new ≡ given interval.value words.now }
 {
-    let greatest = 3 * interval;
+    let greatest = 3 * interval.value;
     for (put, x) in words.iter().filter(|x| **x <= greatest).enumerate() {
         out[put] = value_of(interval, *x);
     }
@@ -84,11 +74,13 @@ pub fn sample_from_uniform_ternary_dist(
     ensures out_after { out.new ≡ sample_after interval words.now out.old }
 {
     let read = words_to_read(interval, out.len(), words)?;
-    fill(interval, &words[..read], out);
+    // No test is made again: words were counted for this interval.
+    fill(Interval { value: interval }, &words[..read], out);
     Ok(read)
 }
 
-// The same work; the unread tail, a part of the words alone, comes back.
+// The same work; the unread tail, a part of the words alone, comes back: all of them on a refusal, by the clause with
+// `sample_tail`.
 pub fn sample_and_return_unread<'w>(interval: u32, words: &'w [u32], out: &mut [u32]) -> &'w [u32]
     ensures result_value { result.now ≡ sample_tail interval (length out.old) words.now }
     ensures out_after { out.new ≡ sample_after interval words.now out.old }

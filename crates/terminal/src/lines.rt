@@ -7,18 +7,13 @@ ghost use Rattle.answers.specs.Lines.{writing_number, writing_length, reading_nu
 pub use answers::lines::{ReadingRefusal, WritingRefusal};
 use frames::lines;
 
-// What a frame's first byte says.
-const QUERY: u8 = 1;
-
-const RESPONSE: u8 = 2;
-
 // Writes a query line into the start of `out`.
 pub fn write_query_line(ticket: u32, words: &[u32], out: &mut [u8]) -> Result<usize, WritingRefusal>
     ensures number { writing_number result ≡ write_line_number ticket (length words.now) (length out.old) }
     ensures length { writing_length result ≡ write_line_length ticket (length words.now) (length out.old) }
     ensures out_after { out.new ≡ write_line_after 1 ticket words.now out.old }
 {
-    lines::write_line(QUERY, ticket, words, out)
+    lines::write_line(lines::QUERY, ticket, words, out)
 }
 
 // Reads a response line, its words into the start of `out`.
@@ -28,5 +23,5 @@ pub fn read_response_line(line: &[u8], out: &mut [u32]) -> Result<(u32, usize), 
     ensures columns { reading_columns result ≡ read_line_columns 2 line.now (length out.old) }
     ensures out_after { out.new ≡ read_line_after 2 line.now out.old }
 {
-    lines::read_line(RESPONSE, line, out)
+    lines::read_line(lines::RESPONSE, line, out)
 }

@@ -48,7 +48,7 @@ pub fn multiply<'a>(
     )
 }
 
-// The same for callers that hold no view.
+// The same for callers that hold no view: public, with this signature (DECISIONS 10).
 pub fn times(
     b: u32,
     vector: &[u32],

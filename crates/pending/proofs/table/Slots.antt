@@ -1,6 +1,6 @@
 -- Which slot has a number. A slot that is taken or closed holds what was put, and each other slot keeps its number and digest.
 use mathlib.Core.Path.{◌≡◌, sym, ap, ◌∙◌}
-use mathlib.Core.Bool.{true, false, not, and-eq-true_iff}
+use mathlib.Core.Bool.{true, false, not, ◌&&◌, and-eq-true_iff, and-false}
 use mathlib.Core.List.{List}
 use Prim.Native.Nat.{ℕ, ◌+◌, ◌<◌}
 use native.Mathlib.Decide.{ℕ_discrete}
@@ -33,6 +33,18 @@ pub slot_used : (t : Table) (ticket : ℕ) → pending t ticket ≡ true → use
 unfolding pending
 slot_used t ticket e =
     rw (slot_pending t ticket e).1 ((and-eq-true_iff (not (eqb ticket 0)) (some 64 (numbered t ticket))).0 e).0
+
+-- a ticket that is not 0 is pending exactly where one of the 64 slots has it
+module _ (t : Table) (ticket : ℕ) where
+  pub pending_found : ¬ (ticket ≡ 0) → slot_of t ticket < 64 → pending t ticket ≡ true
+  unfolding pending
+  pending_found n l = simp (ne_eqb ticket 0 n, some-lowest (numbered t ticket) 64, lt-ltb (slot_of t ticket) 64 l)
+
+  pub pending_none : slot_of t ticket ≡ 64 → pending t ticket ≡ false
+  unfolding pending
+  pending_none e =
+      ap (λ b. not (eqb ticket 0) && b) (some-lowest (numbered t ticket) 64 ∙ le-ltb (slot_of t ticket) 64 (omega arith))
+      ∙ and-false (not (eqb ticket 0))
 
 pub slot_free : (t : Table) → full t ≡ false → (slot_of t 0 < 64) × (number_at t (slot_of t 0) ≡ 0)
 unfolding full

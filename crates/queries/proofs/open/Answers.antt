@@ -1,6 +1,6 @@
 -- The refusals of an open, in 01's order: those of its first step, and then 6. What a refusal and what success say.
-use mathlib.Core.Path.{◌≡◌, refl, sym, ◌∙◌}
-use mathlib.Core.Bool.{true, false}
+use mathlib.Core.Path.{◌≡◌, refl, sym, ap, ◌∙◌}
+use mathlib.Core.Bool.{true, false, true≢false}
 use mathlib.Core.List.{List, [], ◌∷◌}
 use Prim.Native.Nat.{ℕ, suc, zero, ◌*◌, ◌<◌}
 use native.Mathlib.Nat.{not-suc-le-zero}
@@ -13,6 +13,10 @@ use Rattle.laws.specs.Refusals.{◌⇒◌, first, outside}
 use Rattle.laws.specs.Lists.{splice, laid}
 use Rattle.laws.proofs.Refusals.{passed, refused_before, Clear, all_clear, clear_before, not_answered}
 use Rattle.leaves.specs.Positions.{positions_bad}
+use Rattle.std.specs.Prelude.{Err}
+use Rattle.client_answers.specs.declared.open.OpeningRefusal.{OpeningRefusal}
+use Rattle.client_answers.specs.declared.open.OpeningRefusal.TheVariants as opening
+use Rattle.client_answers.specs.Open.{opening_refusal, opening_read}
 use Rattle.pending.specs.declared.table.Table.{Table}
 use Rattle.pending.specs.Table.{digest_pending, full, slot_of, taken}
 use Rattle.queries.specs.Open.{Asked, both_read, either_short, wraps, marked, noisy_of, stored_secret, open_tests, open_number}
@@ -30,7 +34,7 @@ module _ (a : Asked) where
   unfolding early open_number
   refused_early h = refused_before (open_tests a) (wraps a.table.b a.positions (noisy_of a) ⇒ 6 ∷ []) h
 
-  no_test : early a ≡ 0 → Clear (open_tests a)
+  pub no_test : early a ≡ 0 → Clear (open_tests a)
   unfolding early
   no_test e = all_clear (open_tests a) tt e
 
@@ -41,6 +45,18 @@ module _ (a : Asked) where
   never_wraps : eqb (early a) 6 ≡ false
   unfolding early
   never_wraps = not_answered 5 (open_tests a) (refl, (refl, (refl, (refl, (refl, (refl, (refl, (refl, tt))))))))
+
+  -- so the reason of the first step tells no count of words
+  pub unread : (reason : OpeningRefusal) → opening_refusal reason ≡ early a → opening_read (Err reason) ≡ 0
+  unread (opening.Wraps read) e = absurd (true≢false (ap (λ (n : ℕ). eqb n 6) e ∙ never_wraps))
+  unread opening.Table e = refl
+  unread opening.Shape e = refl
+  unread opening.Interval e = refl
+  unread opening.Positions e = refl
+  unread opening.Pending e = refl
+  unread opening.Full e = refl
+  unread opening.Numbers e = refl
+  unread opening.Short e = refl
 
 -- The first step was passed. Whoever wants one of its tests takes it from here by name, and counts no places.
 pub record Ready (a : Asked) : Type 0 where

@@ -10,11 +10,10 @@ use borrow.Author.Tests.{le-ltb}
 use Rattle.laws.specs.Refusals.{◌⇒◌, first, outside}
 use Rattle.laws.proofs.Refusals.{passed}
 use Rattle.laws.proofs.Refusals.{written}
-use Rattle.std.specs.Prelude.{Result, Ok, Err, MatchResult}
+use Rattle.std.specs.Prelude.{Result, Ok, Err, MatchOption}
+use Rattle.std.specs.Result.{result_ok}
 use Rattle.answers.specs.declared.sampler.SamplingRefusal.{SamplingRefusal}
 use Rattle.answers.specs.Sampler.{sampling_number, sampling_read, sampling_refuses}
-use Rattle.client_answers.specs.declared.open.OpeningRefusal.{OpeningRefusal}
-use Rattle.client_answers.specs.declared.open.OpeningRefusal.TheVariants as opening
 use Rattle.samples.specs.Sampler.{sample_number, sample_read, shortest, too_few}
 use Rattle.samples.proofs.sampler.Shortest.{shortest_within}
 
@@ -39,17 +38,16 @@ module _ (interval n : ℕ) (words : List ℕ) (small : n ≤ 4096) (allowed : o
   passed_few : sample_number interval n words ≡ 0 → too_few interval n words ≡ false
   passed_few e = (passed (too_few interval n words) 2 [] (rw only_short at e)).0
 
-  -- an answer whose reason was made 3: the words that are read, or there are too few
-  pub counted : (a : Result ℕ SamplingRefusal) (r : Result ℕ OpeningRefusal)
+  -- an answer without its reason: the count of words that are read; none, where there are too few
+  pub counted : (a : Result ℕ SamplingRefusal)
       → sampling_number a ≡ sample_number interval n words
       → sampling_read a ≡ sample_read interval n words
-      → MatchResult a (λ s. r ≡ Ok s) (λ _. r ≡ Err opening.Short)
-      → MatchResult r (λ s. (s ≡ shortest interval n words) × (s ≤ length words) × (too_few interval n words ≡ false))
-      (λ e. (e ≡ opening.Short) × (too_few interval n words ≡ true))
-  counted (Ok s) r p q e =
+      → MatchOption (result_ok a) (too_few interval n words ≡ true)
+      (λ s. (s ≡ shortest interval n words) × (s ≤ length words) × (too_few interval n words ≡ false))
+  counted (Ok s) p q =
       let t : s ≡ shortest interval n words = q ∙ sym (written (sample_number interval n words) (shortest interval n words) 0 (sym p)) in
-      rw e (t, rw t (shortest_within interval n words), passed_few (sym p))
-  counted (Err reason) r p q e = rw e (refl, refused_few (rw p at (sampling_refuses reason)))
+      (t, rw t (shortest_within interval n words), passed_few (sym p))
+  counted (Err reason) p q = refused_few (rw p at (sampling_refuses reason))
 
   pub enough_passes : too_few interval n words ≡ false → sample_number interval n words ≡ 0
   enough_passes e = only_short ∙ ap (λ (t : Bool). first (t ⇒ 3 ∷ [])) e

@@ -1,5 +1,5 @@
 -- The answers of a reply: refused before a row is recovered, or by what the row says.
-use Rattle.std.proofs.Common.{◌≡◌, ℕ, ◌*◌, ◌<◌, ◌≤◌, true, false, not, eqb, ltb, List, [], ◌∷◌, length, Result, Err, sym, refl, ◌∙◌, true≢false, arith, ltb-false, ne_eqb, eqb-true}
+use Rattle.std.proofs.Common.{◌≡◌, ℕ, ◌*◌, ◌<◌, ◌≤◌, true, false, not, ◌||◌, eqb, ltb, List, [], ◌∷◌, length, Result, Err, sym, refl, ◌∙◌, true≢false, arith, ltb-false, ne_eqb, eqb-true}
 use native.Mathlib.Decide.{dec_lt}
 use borrow.Author.Tests.{not-false}
 use Rattle.laws.specs.Refusals.{Test, ◌⇒◌, first, after}
@@ -9,10 +9,20 @@ use Rattle.rows.specs.Codec.{value_room_of, value_length, value_of}
 use Rattle.pending.specs.declared.table.Table.{Table}
 use Rattle.client_answers.specs.declared.reply.ReplyingRefusal.{ReplyingRefusal}
 use Rattle.pending.specs.Table.{malformed, pending}
+use Rattle.replies.specs.declared.reply.Waiting.{Waiting}
 use Rattle.replies.specs.Reply.{Received, lent_bad, recovered, slot_for, row_for, row_tests, row_number_of, reply_number, closing}
 use Rattle.replies.specs.Reply.{reply_length, reply_value}
 use Rattle.client_answers.specs.Reply.{replying_refusal, replying_refuses, replying_number, replying_length}
 use Rattle.pending.proofs.table.Answers.{Closable}
+
+-- what is lent has the table's lengths
+pub fits : (t : Table) (slab masks value : ℕ) → lent_bad t slab masks value ≡ false
+    → (slab ≡ 64 * t.columns) × (masks ≡ t.columns) × (value_room_of t.b t.columns ≤ value)
+unfolding lent_bad
+fits t slab masks value e =
+    let p = neither (not (eqb slab (64 * t.columns)) || not (eqb masks t.columns)) (ltb value (value_room_of t.b t.columns)) e in
+    let q = neither (not (eqb slab (64 * t.columns))) (not (eqb masks t.columns)) p.0 in
+    (eqb-true _ _ (not-false _ q.0), eqb-true _ _ (not-false _ q.1), ltb-false _ _ p.1)
 
 -- what an answer says, and what the value buffer holds
 pub record Told (a : Received) (r : Result ℕ ReplyingRefusal) (value : List ℕ) : Type 0 where
@@ -21,6 +31,15 @@ pub record Told (a : Received) (r : Result ℕ ReplyingRefusal) (value : List �
   pub value_is : value ≡ reply_value a
 
 module _ (a : Received) where
+  -- a waiting ticket has what was lent for it
+  abbrev pub Holds : Waiting → Type 0
+  Holds w =
+      (w.table ≡ a.table)
+      × (w.slot.index ≡ slot_for a)
+      × (w.secret.now ≡ row a.table.columns a.slab (slot_for a))
+      × (w.response.now ≡ a.response)
+      × (w.masks.now ≡ a.masks)
+
   -- the tests that need no row
   abbrev pub early : List Test
   early =
@@ -74,11 +93,7 @@ module _ (a : Received) where
     pub lent : (length a.slab ≡ 64 * a.table.columns)
         × (length a.masks ≡ a.table.columns)
         × (value_room_of a.table.b a.table.columns ≤ length a.value)
-    unfolding lent_bad
-    lent =
-        let p = neither _ (ltb (length a.value) (value_room_of a.table.b a.table.columns)) clear.1.0 in
-        let q = neither (not (eqb (length a.slab) (64 * a.table.columns))) (not (eqb (length a.masks) a.table.columns)) p.0 in
-        (eqb-true _ _ (not-false _ q.0), eqb-true _ _ (not-false _ q.1), ltb-false _ _ p.1)
+    lent = fits _ _ _ _ clear.1.0
 
     pub waiting : pending a.table a.ticket ≡ true
     waiting = not-false _ clear.1.1.0
@@ -90,16 +105,20 @@ module _ (a : Received) where
     unfolding reply_number row_number_of
     row_number = clear_before early late clear
 
-    -- what is answered for the row of the ticket's slot
-    module _ {t : Table} {s : ℕ} (table-is : t ≡ a.table) (slot-is : s ≡ slot_for a) where
-      abbrev row_at : List ℕ
-      row_at = recovered t.b (row t.columns a.slab s) a.response a.masks
+    -- what is answered for the row of a waiting ticket
+    module _ (w : Waiting) (is : Holds w) where
+      abbrev row_of : List ℕ
+      row_of = recovered w.table.b w.secret.now w.response.now w.masks.now
 
       pub row_told : (r : Result ℕ ReplyingRefusal) (value : List ℕ)
-          → replying_number r ≡ row_number_of t s row_at
-          → replying_length r ≡ after (replying_number r) (value_length t.b t.columns row_at) 0
-          → value ≡ after (replying_number r) (laid (value_of t.b t.columns row_at) a.value) a.value
+          → replying_number r ≡ row_number_of w.table w.slot.index row_of
+          → replying_length r ≡ after (replying_number r) (value_length w.table.b w.table.columns row_of) 0
+          → value ≡ after (replying_number r) (laid (value_of w.table.b w.table.columns row_of) a.value) a.value
           → Told a r value
       row_told r value n l v =
-          let e : replying_number r ≡ reply_number a = rw (table-is, slot-is) at n ∙ sym row_number in
-          record { number_is = e; length_is = rw (e, table-is, slot-is) at l; value_is = rw (e, table-is, slot-is) at v }
+          let e : replying_number r ≡ reply_number a = rw (is.0, is.1, is.2, is.3, is.4) at n ∙ sym row_number in
+          record {
+            number_is = e;
+            length_is = rw (e, is.0, is.2, is.3, is.4) at l;
+            value_is = rw (e, is.0, is.2, is.3, is.4) at v;
+          }

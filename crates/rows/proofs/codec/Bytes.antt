@@ -3,7 +3,6 @@ use mathlib.Core.Path.{◌≡◌, sym, ap, ◌∙◌}
 use mathlib.Core.Bool.{Bool, true, false, cond}
 use mathlib.Core.List.{List, ◌++◌}
 use Prim.Native.Nat.{ℕ, zero, suc, ◌*◌, ◌-◌, ◌<◌, ◌≤◌}
-use native.Mathlib.Nat.{not-suc-le-zero}
 use native.Mathlib.Omega.{arith}
 use native.Mathlib.Decide.{dec_lt}
 use lib.Dec.{eqb}
@@ -39,18 +38,8 @@ module _ (b columns : ℕ) (row : List ℕ) where
   unfolding bytes_of
   byte_is m h = get_or-carried 8 (bytes_in b columns) (bit_of b row) m h
 
--- The search from the end, at n bytes of which one at least is left.
+-- The last of the first n bytes that is not zero.
 module _ (xs : List ℕ) where
-  pub last_here : (n : ℕ) → 0 < n → (get_or xs (n - 1) 0 ≡ 0 → ⊥) → last_nonzero n xs ≡ n - 1
-  unfolding last_nonzero
-  last_here zero l h = absurd (not-suc-le-zero l)
-  last_here (suc n) l h = let e : suc n - 1 ≡ n = omega arith in rw (e, ne_eqb (get_or xs n 0) 0 (rw e at h))
-
-  pub last_less : (n : ℕ) → 0 < n → get_or xs (n - 1) 0 ≡ 0 → last_nonzero n xs ≡ last_nonzero (n - 1) xs
-  unfolding last_nonzero
-  last_less zero l h = absurd (not-suc-le-zero l)
-  last_less (suc n) l h = let e : suc n - 1 ≡ n = omega arith in rw (e, eq-eqb (get_or xs n 0) 0 (rw e at h))
-
   pub last_le : (n : ℕ) → last_nonzero n xs ≤ n - 1
   unfolding last_nonzero
   last_le zero = omega arith
@@ -60,18 +49,22 @@ module _ (xs : List ℕ) where
       by true h = omega arith
       by false h = omega arith
 
+  -- all from e on are zero
+  pub last_below : (n e : ℕ) → 0 < e → ((m : ℕ) → e ≤ m → m < n → get_or xs m 0 ≡ 0) → last_nonzero n xs < e
+  unfolding last_nonzero
+  last_below zero e h zeros = h
+  last_below (suc n) e h zeros =
+      elim (dec_lt n e) [
+        | yes k ↦ omega (arith, last_le (suc n))
+        | no g ↦ rw (eq-eqb (get_or xs n 0) 0 (zeros n (omega arith) (omega arith))) (last_below n e h (λ m a b. zeros m a (omega arith)))
+      ]
+
   -- all past e are zero, and the one at e is not
-  pub last_at : (n e : ℕ) → e < n → (get_or xs e 0 ≡ 0 → ⊥) → ((m : ℕ) → e < m → get_or xs m 0 ≡ 0) → last_nonzero n xs ≡ e
+  pub last_at : (n e : ℕ) → e < n → (get_or xs e 0 ≡ 0 → ⊥) → ((m : ℕ) → e < m → m < n → get_or xs m 0 ≡ 0) → last_nonzero n xs ≡ e
+  unfolding last_nonzero
   last_at zero e l here zeros = absurd (omega arith)
   last_at (suc n) e l here zeros =
-      elim (dec_lt e n) [ yes k ↦ below k (last_at n e k here zeros) | no g ↦ at (omega arith) ]
-    where
-      f : suc n - 1 ≡ n
-      f = omega arith
-
-      below : e < n → last_nonzero n xs ≡ e → last_nonzero (suc n) xs ≡ e
-      below k ih =
-          last_less (suc n) (omega arith) (zeros (suc n - 1) (omega (arith, f))) ∙ ap (λ (m : ℕ). last_nonzero m xs) f ∙ ih
-
-      at : e ≡ suc n - 1 → last_nonzero (suc n) xs ≡ e
-      at g = last_here (suc n) (omega arith) (rw g at here) ∙ sym g
+      elim (dec_lt e n) [
+        | yes k ↦ rw (eq-eqb (get_or xs n 0) 0 (zeros n k (omega arith))) (last_at n e k here (λ m a b. zeros m a (omega arith)))
+        | no g ↦ let same : e ≡ n = omega arith in rw (ne_eqb (get_or xs n 0) 0 (rw same at here)) (sym same)
+      ]

@@ -20,7 +20,7 @@ use Rattle.rows.specs.Codec.{bytes_in, value_room_of, record_of, row_of, encode_
 use Rattle.rows.specs.Codec.{bytes_of, last_nonzero, marker_bad, reader_bad, value_length, digest_of, value_of, decode_number}
 use Rattle.rows.proofs.codec.Sizes.{sized}
 use Rattle.rows.proofs.codec.Answers.{Taken, taken}
-use Rattle.rows.proofs.codec.Record.{marked, byte_digest, byte_value, byte_marker, byte_past, length_marked, record_byte}
+use Rattle.rows.proofs.codec.Marked.{marked, byte_digest, byte_value, byte_marker, byte_past, length_marked, record_byte}
 use Rattle.rows.proofs.codec.Bytes.{length_row, last_at}
 
 -- The bits are carried over: bit k of the bytes that are read is bit k of the row ..
@@ -104,7 +104,7 @@ module _ (b columns room : ℕ) (digest value : List ℕ)
   marker_found =
       last_at (record_of b columns digest value) (bytes_in b columns) (32 + length value) (omega (arith, fits))
       (λ z. let e : ◌≡◌ {A = ℕ} 129 0 = sym marker ∙ z in omega arith)
-      (λ m l. record_byte b columns digest value m ∙ byte_past digest value whole m (omega (arith, l)))
+      (λ m l _. record_byte b columns digest value m ∙ byte_past digest value whole m (omega (arith, l)))
 
   marker_back : marker_bad b columns (row_of b columns digest value) ≡ false
   unfolding marker_bad

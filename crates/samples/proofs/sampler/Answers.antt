@@ -27,10 +27,16 @@ module _ (interval n : ℕ) (words : List ℕ) where
         ∙ read
         ∙ sym (written (sample_number interval n words) (shortest interval n words) 0 success)
 
-  -- 0: the interval is within its limits, and there are words enough
-  pub allowed : sample_number interval n words ≡ 0 → (interval ≤ 1431655765) × (too_few interval n words ≡ false)
-  unfolding sample_number
-  allowed e =
-      let p = passed (ltb 4096 n) 1 (outside 1 1431655765 interval ⇒ 4 ∷ too_few interval n words ⇒ 3 ∷ []) e in
-      let q = passed (outside 1 1431655765 interval) 3 (too_few interval n words ⇒ 3 ∷ []) p.1 in
-      ((inside 1 1431655765 interval q.0).1, (passed (too_few interval n words) 2 [] q.1).0)
+-- 0: the interval is within its limits, and there are words enough
+pub record Allowed (interval n : ℕ) (words : List ℕ) : Type 0 where
+  pub least : 1 ≤ interval
+  pub most : interval ≤ 1431655765
+  pub enough : too_few interval n words ≡ false
+
+pub allowed : (interval n : ℕ) (words : List ℕ) → sample_number interval n words ≡ 0 → Allowed interval n words
+unfolding sample_number
+allowed interval n words e =
+    let p = passed (ltb 4096 n) 1 (outside 1 1431655765 interval ⇒ 4 ∷ too_few interval n words ⇒ 3 ∷ []) e in
+    let q = passed (outside 1 1431655765 interval) 3 (too_few interval n words ⇒ 3 ∷ []) p.1 in
+    let i = inside 1 1431655765 interval q.0 in
+    record { least = i.0; most = i.1; enough = (passed (too_few interval n words) 2 [] q.1).0 }

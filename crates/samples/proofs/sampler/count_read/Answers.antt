@@ -1,66 +1,49 @@
-use Rattle.std.proofs.Common.{◌≡◌, ◌≤◌, length, take, refl, sym, ap, ◌∙◌, take_all, arith, lt-ltb, le-leb}
-use borrow.Author.Tests.{lt-leb}
-use Rattle.laws.proofs.Search.{some_none, some_more}
-use Rattle.samples.specs.Sampler.{accepted, given, holds_enough, too_few}
-use Rattle.samples.proofs.sampler.Given.{length-given_more}
-use Rattle.samples.proofs.sampler.Shortest.{shortest_is, enough_given}
+-- The chain gives the accepted words, each with its place.
+use Rattle.std.proofs.Common.{◌≡◌, ◌-◌, ℕ, Option, Some, None, subst, sym, ap, ◌∙◌, arith, rules, tests, Bor}
+use Rattle.std.specs.Option.{option_map}
+use Rattle.std.proofs.lemmas.Iterator.{YieldsList-from_slice}
+use Rattle.std.proofs.lemmas.Iterator.Consumers.{YieldsList-at, YieldsList-from_filter, YieldsList-from_enumerate, nth_from_yields_List}
+use Rattle.std.proofs.lemmas.Result.{err_from_is_err_and}
+use Rattle.answers.specs.declared.sampler.SamplingRefusal.TheVariants.{Short}
+use Rattle.samples.specs.Sampler.{accepted}
+use Rattle.samples.proofs.sampler.Shortest.{none_wanted, enough_given, Told, nth_told}
 use Rattle.samples.proofs.sampler.count_read.Goals as goal
-use Rattle.samples.proofs.sampler.count_read.Goals.{then-x-greatest, else-x-greatest}
+use Rattle.samples.proofs.sampler.count_read.Goals.{After-nth}
 
-pub loop-seen-init : goal.loop-seen-init
-unfolding given
-loop-seen-init c = (refl, omega arith, some_none _)
-
-pub returns-then-got-wanted : goal.returns-then-got-wanted
-returns-then-got-wanted c =
-    let a = c.args in
-    let l = c.loop-seen in
-    let w = a.words.now in
-    let holds : a.wanted ≤ length (given a.interval (take l.seen w)) = omega (arith, l.invariant.0) in record {
-      number = simp (enough_given a.interval a.wanted w l.seen holds);
-      read = sym (shortest_is a.interval a.wanted w l.seen l.auto.seen-end l.invariant.2 holds);
+pub returns-then-wanted-eq0 : goal.returns-then-wanted-eq0
+returns-then-wanted-eq0 c =
+    let a = c.args in record {
+      number = simp (enough_given a.interval.value a.wanted a.words.now 0 (omega arith));
+      read = rw c.if-wanted-eq0.true (sym (none_wanted a.interval.value a.words.now));
     }
 
-pub overflow_add-got : goal.overflow_add-got
-overflow_add-got c = omega (arith, c.loop-seen.invariant.1)
-
-pub loop-seen-preserved : goal.loop-seen-preserved
-unfolding holds_enough accepted
-loop-seen-preserved c =
+told : (c : After-nth) (r : Option (ℕ × Bor ℕ)) → c.nth.result ≡ r
+    → Told c.args.interval.value c.args.wanted c.args.words.now (option_map (λ p. (p.0, p.1.now)) r)
+unfolding accepted
+told c r e =
     let a = c.args in
-    let l = c.loop-seen in
-    let w = a.words.now in
-    let more = length-given_more a.interval l.seen w c.loop-seen-test.true in
-    let few = lt-leb a.wanted (length (given a.interval (take l.seen w))) (omega (arith, l.invariant)) in
-    let none = some_more (holds_enough a.interval a.wanted w) l.seen l.invariant.2 few in
-    elim c.if-x-greatest.branch [
-      | then-x-greatest t ↦
-          let one = rw (le-leb _ _ t.if-x-greatest.true) at more in
-          (omega (arith, t.got-is, one, l.invariant.0), omega (arith, t.got-is, l.invariant), none)
-      | else-x-greatest t ↦
-          let none_more = rw (lt-leb _ _ t.if-x-greatest.false) at more in
-          (omega (arith, t.got-is, none_more, l.invariant.0), omega (arith, t.got-is, l.invariant), none)
-    ]
+    subst (Told a.interval.value a.wanted a.words.now)
+    (sym
+    (nth_from_yields_List c.nth.result c.nth.new.self (a.wanted - 1) c.nth.ensures.ran
+    (YieldsList-from_filter _ (λ q. accepted a.interval.value q.1)
+    (YieldsList-at c.filter-accepted.ensures.source
+    (YieldsList-from_enumerate
+    (YieldsList-at c.enumerate.ensures.source (YieldsList-from_slice a.words.now cc))
+    (cc)))
+    c.filter-accepted.ensures.closure
+    (λ x b q k. search (rules, tests))))
+    ∙ ap (option_map (λ p. (p.0, p.1.now))) e)
+    (nth_told a.interval.value a.wanted a.words.now (omega arith))
 
-pub returns-then-got-wanted-2 : goal.returns-then-got-wanted-2
-unfolding too_few
-returns-then-got-wanted-2 c =
-    let a = c.args in
-    let l = c.loop-seen in
-    let w = a.words.now in
-    let all = l.invariant.0 ∙ ap (λ xs. length (given a.interval xs)) (take_all l.seen w (omega arith)) in
-    record {
-      number = simp (lt-ltb (length (given a.interval w)) a.wanted (omega (arith, all)));
-      read = refl;
-    }
+pub returns-in_err-last-clause-number : goal.returns-in_err-last-clause-number
+returns-in_err-last-clause-number c =
+    let t = told (goal.at.returns-in_err-last-clause-number c).After-nth None c.in_err-last.ensures.ok_part in
+    let p = err_from_is_err_and c.from_residual.result c.from_residual.ensures.1 in
+    let short : c.in_err-last.field-0.0 ≡ Short = search rules in
+    rw (p.1, p.2, short) (simp t)
 
 pub returns : goal.returns
 returns c =
-    let a = c.args in
-    let l = c.loop-seen in
-    let w = a.words.now in
-    let seen : l.seen ≡ length w = omega arith in
-    let holds : a.wanted ≤ length (given a.interval (take l.seen w)) = omega (arith, l.invariant) in record {
-      number = simp (enough_given a.interval a.wanted w l.seen holds);
-      read = sym (shortest_is a.interval a.wanted w l.seen l.auto.seen-end l.invariant.2 holds ∙ seen);
-    }
+    let p = c.in_ok-last in
+    let t = told (goal.at.returns c).After-nth (Some (p.last, p.field-0-1)) p.ensures.ok_part in
+    record { number = simp t.0; read = sym t.1 }

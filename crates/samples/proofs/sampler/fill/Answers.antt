@@ -30,7 +30,7 @@ value_more f xs old new n i x v e h g p =
 
 turn : (c : In-Some)
     → let n = length c.loop-put.yielded in
-    let xs = filter (accepted c.args.interval) c.args.words.now in
+    let xs = filter (accepted c.args.interval.value) c.args.words.now in
     (n < length xs) × (c.in-Some.put ≡ n) × (c.in-Some.x.now ≡ get_or xs n c.in-Some.x.now)
 unfolding accepted
 turn c =
@@ -39,7 +39,7 @@ turn c =
     (YieldsList-at c.into_iter-put-iterator.ensures.into_iter_gives
     (YieldsList-from_enumerate
     (YieldsList-at c.enumerate-put-items.ensures.source
-    (YieldsList-from_filter _ (accepted c.args.interval) (YieldsList-from_slice c.args.words.now cc) c.filter.ensures.closure
+    (YieldsList-from_filter _ (accepted c.args.interval.value) (YieldsList-from_slice c.args.words.now cc) c.filter.ensures.closure
     (λ x b q k. search (rules, tests))))
     (cc)))
     c.loop-put.yielded _ c.loop-put.yielded_by _ _ _ c.in-Some.is c.next.ensures.steps)
@@ -56,15 +56,15 @@ pub bounds-out-put : goal.bounds-out-put
 bounds-out-put c =
     let a = c.args in
     let t = turn (goal.at.bounds-out-put c).In-Some in
-    omega (arith, t.0, t.1, enough a.interval a.words.now a.out.now c.requires.words_len, c.loop-put.invariant.long)
+    omega (arith, t.0, t.1, enough a.interval.value a.words.now a.out.now c.requires, c.loop-put.invariant.long)
 
 pub loop-put-preserved : goal.loop-put-preserved
 loop-put-preserved c =
     let a = c.args in
-    let e = enough a.interval a.words.now a.out.now c.requires.words_len in
+    let e = enough a.interval.value a.words.now a.out.now c.requires in
     let t = turn (goal.at.loop-put-preserved c).In-Some in
     rw (length_push c.loop-put.yielded (c.in-Some.put, c.in-Some.x))
-    (value_more (ternary a.interval) (filter (accepted a.interval) a.words.now) _ _ _ _ _ _ e t c.value_of.ensures c.loop-put.invariant)
+    (value_more (ternary a.interval.value) (filter (accepted a.interval.value) a.words.now) _ _ _ _ _ _ e t c.value_of.ensures c.loop-put.invariant)
 
 -- at the end all of them are written
 written : (interval : ℕ) (words old new : List ℕ) (n : ℕ) → length (filter (accepted interval) words) ≡ length old
@@ -80,12 +80,12 @@ pub returns : goal.returns
 unfolding accepted
 returns c =
     let a = c.args in
-    written a.interval a.words.now _ _ _ (enough a.interval a.words.now a.out.now c.requires.words_len)
+    written a.interval.value a.words.now _ _ _ (enough a.interval.value a.words.now a.out.now c.requires)
     (YieldsList-end
     (YieldsList-at c.into_iter-put-iterator.ensures.into_iter_gives
     (YieldsList-from_enumerate
     (YieldsList-at c.enumerate-put-items.ensures.source
-    (YieldsList-from_filter _ (accepted a.interval) (YieldsList-from_slice a.words.now cc) c.filter.ensures.closure
+    (YieldsList-from_filter _ (accepted a.interval.value) (YieldsList-from_slice a.words.now cc) c.filter.ensures.closure
     (λ x b q k. search (rules, tests))))
     (cc)))
     c.loop-put.yielded _ c.loop-put.yielded_by _ _ c.in-None.is c.next.ensures.steps).1

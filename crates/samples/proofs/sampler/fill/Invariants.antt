@@ -7,4 +7,4 @@ use Rattle.samples.proofs.sampler.fill.Given as goal
 
 abbrev pub invariant-loop-put : goal.invariant-loop-put
 invariant-loop-put l =
-    Filled (map (ternary l.interval) (take (length l.yielded) (filter (accepted l.interval) l.words))) l.initial.out l.out
+    Filled (map (ternary l.interval.value) (take (length l.yielded) (filter (accepted l.interval.value) l.words))) l.initial.out l.out

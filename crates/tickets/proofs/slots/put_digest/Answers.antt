@@ -7,5 +7,5 @@ pub returns : goal.returns
 returns c =
     let a = c.args in
     let e = c.copy_from_slice.ensures.after in
-    put_splice (a.s * 32) _ a.digests.now _ (omega (arith, ap length e))
-    ∙ ap (λ ys. splice (a.s * 32) ys a.digests.now) e
+    put_splice (a.slot.index * 32) _ a.digests.now _ (omega (arith, ap length e))
+    ∙ ap (λ ys. splice (a.slot.index * 32) ys a.digests.now) e

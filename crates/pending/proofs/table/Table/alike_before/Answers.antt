@@ -6,4 +6,4 @@ use Rattle.pending.proofs.table.Table.alike_before.Goals as goal
 pub returns : goal.returns
 returns c =
     let a = c.args in
-    any_below (λ q. alike a.self.now q a.s) a.s c.any.ensures.ran (cc) (λ x b q k. search (rules, tests))
+    any_below (λ q. alike a.self.now q a.s.index) a.s.index c.any.ensures.ran (cc) (λ x b q k. search (rules, tests))

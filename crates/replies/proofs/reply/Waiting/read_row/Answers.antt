@@ -80,10 +80,10 @@ module _ (c : After-differs_at) where
   abbrev took : In_ok-n
   took = (goal.at.After-differs_at c).In_ok-n
 
-  number_is : row_number_of c.args.self.now.table c.args.self.now.slot c.args.row.now ≡ cond c.differs_at.result 14 0
+  number_is : row_number_of c.args.self.now.table c.args.self.now.slot.index c.args.row.now ≡ cond c.differs_at.result 14 0
   number_is =
       let t = c.args.self.now.table in
-      let s = c.args.self.now.slot in
+      let s = c.args.self.now.slot.index in
       let same : c.differs_at.result ≡ digest_bad t s c.args.row.now =
       c.differs_at.ensures
       ∙ compared t s _ c.args.self.now.taken

@@ -1,27 +1,28 @@
-use Rattle.std.proofs.Common.{◌≡◌, ◌-◌, ◌<◌, length, get_or, sym, ◌∙◌, arith, rules, lt-ltb}
-use Rattle.rows.specs.Codec.{bytes_of, marker_at, marker_bad}
-use Rattle.rows.proofs.codec.Bytes.{last_here, last_less, last_le}
+use Rattle.std.proofs.Common.{◌≡◌, ℕ, ◌<◌, ◌≤◌, length, get_or, arith, rules, lt-ltb}
+use Rattle.std.proofs.iter.runs.Sources.{ranges}
+use Rattle.rows.specs.Codec.{bytes_in, bytes_of, marker_bad}
+use Rattle.rows.proofs.codec.Bytes.{last_at, last_below}
 use Rattle.rows.proofs.codec.Row.marker_at.Goals as goal
 
-pub returns-then-byte-ne0 : goal.returns-then-byte-ne0
-unfolding marker_bad
-returns-then-byte-ne0 c =
-    let r = c.args.self.now in
-    let xs = bytes_of r.width.bits (length r.elements.now) r.elements.now in
-    let here = last_here xs c.loop-at.at (omega arith) (λ z. c.if-byte-ne0.true (c.byte-byte.ensures ∙ z)) in
-    rw (← (sym here ∙ c.loop-at.invariant)) (search rules)
+pub byte-requires : goal.byte-requires
+byte-requires c = search (rules, ranges)
 
-pub loop-at-preserved : goal.loop-at-preserved
-loop-at-preserved c =
+pub returns-in_err-at : goal.returns-in_err-at
+unfolding marker_bad
+returns-in_err-at c =
     let r = c.args.self.now in
+    let n = bytes_in r.width.bits (length r.elements.now) in
     let xs = bytes_of r.width.bits (length r.elements.now) r.elements.now in
-    let z : get_or xs (c.loop-at.at - 1) 0 ≡ 0 = sym c.byte-byte.ensures ∙ c.if-byte-ne0.false in
-    sym (last_less xs c.loop-at.at (omega arith) z) ∙ c.loop-at.invariant
+    let some : 0 < 32 = omega arith in
+    let zeros : (m : ℕ) → 32 ≤ m → m < n → get_or xs m 0 ≡ 0 = search (rules, ranges) in
+    rw (lt-ltb _ _ (last_below xs n 32 some zeros)) (search rules)
 
 pub returns : goal.returns
 unfolding marker_bad
 returns c =
     let r = c.args.self.now in
+    let n = bytes_in r.width.bits (length r.elements.now) in
     let xs = bytes_of r.width.bits (length r.elements.now) r.elements.now in
-    let l : marker_at r.width.bits (length r.elements.now) r.elements.now < 32 = omega (arith, c.loop-at.invariant, last_le xs c.loop-at.at) in
-    rw (lt-ltb _ _ l)
+    let at = c.in_ok-at.at in
+    let found : (32 ≤ at) × (at < n) × (get_or xs at 0 ≡ 0 → ⊥) × ((m : ℕ) → at < m → m < n → get_or xs m 0 ≡ 0) = search (rules, ranges) in
+    rw (last_at xs n at found.1 found.2 found.3) (search rules)
