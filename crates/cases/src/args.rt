@@ -1,5 +1,6 @@
 // What a call takes, one after the other from a line's numbers.
 use super::fault::Fault;
+use abi_client::open::Positions;
 use std::alloc::Global;
 
 #[derive(Drop)]
@@ -54,6 +55,16 @@ impl<'a> Args<'a> {
         let n = bytes.len().min(32);
         digest[..n].copy_from_slice(&bytes[..n]);
         Ok(digest)
+    }
+
+    // Four positions.
+    pub(crate) fn positions(&mut self) -> Result<Positions, Fault> {
+        Ok(Positions {
+            p0: self.word()?,
+            p1: self.word()?,
+            p2: self.word()?,
+            p3: self.word()?,
+        })
     }
 
     // Nothing is left.

@@ -2,7 +2,6 @@
 use super::args::Args;
 use super::fault::Fault;
 use super::print::{List, Shown};
-use abi_client::open::Positions;
 use abi_client::{discard, open, reply, table};
 use pending::table::Table;
 
@@ -46,12 +45,7 @@ impl State {
     pub(crate) fn open(&mut self, rt: &impl Print, mut args: Args<'_>) -> Result<(), Fault> {
         let slab = lent(&mut self.slab, args.size()?);
         let (n, r, interval) = (args.size()?, args.size()?, args.word()?);
-        let positions = Positions {
-            p0: args.word()?,
-            p1: args.word()?,
-            p2: args.word()?,
-            p3: args.word()?,
-        };
+        let positions = args.positions()?;
         let (matrix, hint, digest) = (args.words()?, args.words()?, args.digest()?);
         let (words, mut secret) = (args.words()?, args.words()?);
         let (mut error, mut query) = (args.words()?, args.words()?);

@@ -143,7 +143,8 @@ struct Row<'a> {
 }
 
 impl Row<'_> {
-    // Its whole bytes.
+    // Its whole bytes. (`value_room` has the same line: a function of b and C for both would ask of its callers that C is
+    // small.)
     fn bytes(&self) -> usize
         ensures { result ≡ bytes_in self.now.width.bits (length self.now.elements.now) }
     {
