@@ -3,7 +3,7 @@
 # target/native/libladletwig.a for any other processor. MACHINE is x86_64 or aarch64; without it, this machine's own.
 # `rt lib` makes an archive of a static library, and the C face is one: crates/ladletwig_c, which calls the crates abi_*. Every
 # other name in the archive is local. An entry left out there would be missed only by who calls it: so the exports are held to
-# include/ladletwig.h, and no archive is written that has one less or one more.
+# include/ladletwig.h, and no archive is written that has one less or one more. Nor is one that calls anything but memcpy and memset.
 set -eu
 here=$(cd "$(dirname "$0")" && pwd)
 root=$(dirname "$here")
@@ -35,8 +35,15 @@ hold_to_header() {
     [ -s "$work/declared" ] && cmp -s "$work/declared" "$work/exported" || exit 1
 }
 
+# Ends the run where the archive calls anything but memcpy and memset, all that the header lets it call: linked with these two
+# alone, no name of it may be open.
+hold_to_two_calls() {
+    "$tools/ld.lld" --entry=0 --defsym=memcpy=0 --defsym=memset=0 --whole-archive "$1" -o "$work/linked"
+}
+
 "$here/native-archive.sh" "$root" ladletwig_c "$work" "$machine"
 hold_to_header "$work/libladletwig_c.a"
+hold_to_two_calls "$work/libladletwig_c.a"
 mkdir -p "$folder"
 mv "$work/libladletwig_c.a" "$folder/libladletwig.a"
 echo "archive: target/${folder##*/}/libladletwig.a has the $(wc -l < "$work/declared") functions of include/ladletwig.h"

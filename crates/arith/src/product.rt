@@ -8,6 +8,7 @@ ghost use Rattle.arith.specs.Product.{slot_sum, entry_of, product, operands_bad,
 use super::packing;
 use super::packing::PackingRefusal;
 use leaves::width::Width;
+use leaves::words;
 
 // The elements of `part` times the slots of one word (the walk of `pack_word`). A slot that `part` does not reach doesn't
 // count.
@@ -20,7 +21,7 @@ fn word_sum(width: Width, word: u32, part: &[u32]) -> u32
     let mut acc: u32 = 0;
     let mut shift = 0;
     for x in part {
-        acc = acc.wrapping_add(x.wrapping_mul((word >> shift) & low));
+        acc = acc.wrapping_add(words::wrapping_mul(*x, (word >> shift) & low));
         shift += slot;
     }
     acc

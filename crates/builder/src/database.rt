@@ -12,8 +12,8 @@ ghost use Rattle.answers.specs.Database.{building_number};
 use super::keys::LentKeys;
 use super::placement;
 pub use answers::database::BuildingRefusal;
-use leaves::limits;
 use leaves::width::Width;
+use leaves::{limits, words};
 
 // 2: each dimension is tested before a product is taken. It is asked before there can be a `LentKeys`. (The clause is for every
 // b: `proposed` has one, and this test reads none.)
@@ -119,7 +119,7 @@ fn place_keys(width: Width, keys: LentKeys<'_>, words: &mut [u32])
     requires words_len { length words.old ≡ keys.r * keys.columns }
     ensures { words.new ≡ database width.bits keys.entry.r keys.entry.columns (keys_in keys.entry) keys.entry.count }
 {
-    words.fill(0);
+    words::zero(words);
     // The library has no heap: this is of the largest size.
     let mut sums = [0u32; limits::COLUMNS_MOST];
     for i in 0..keys.count {

@@ -31,20 +31,27 @@ impl<'a> Args<'a> {
         word_of(self.size()?)
     }
 
-    // A buffer: its length and its elements.
+    // A buffer: its length and its elements. (A place is made for each before it is read: what collects them one by one takes
+    // most of the time of a line of long runs.)
     pub(crate) fn words(&mut self) -> Result<Vec<u32>, Fault> {
         let n = self.size()?;
         let elements = self.rest.split_off(..n).ok_or(Fault::BadLine)?;
-        elements.iter().map(|x| word_of(*x)).try_collect(self.alloc)
+        let mut words = Vec::new(self.alloc);
+        words.resize(n, 0)?;
+        for (word, x) in words.iter_mut().zip(elements) {
+            *word = word_of(*x)?;
+        }
+        Ok(words)
     }
 
     // Of a buffer of bytes the low byte of each element counts.
     pub(crate) fn bytes(&mut self) -> Result<Vec<u8>, Fault> {
         let words = self.words()?;
-        let bytes = words
-            .iter()
-            .map(|x| x.to_le_bytes()[0])
-            .collect(self.alloc)?;
+        let mut bytes = Vec::new(self.alloc);
+        bytes.resize(words.len(), 0)?;
+        for (byte, x) in bytes.iter_mut().zip(words.iter()) {
+            *byte = x.to_le_bytes()[0];
+        }
         Ok(bytes)
     }
 

@@ -26,17 +26,24 @@ fn readable(c: u8) -> bool {
     matches!(c, b'\n' | b' '..=b'~') && !matches!(c, b'"' | b'\\')
 }
 
-// A line of a protocol: a text where it can be, and else a list.
+// A line of a protocol: a text where it can be, and else a list. Of the characters that can stand in one LF alone is written as
+// two (README.md), so `escape_ascii` won't do: it escapes an apostrophe as well.
 #[derive(Drop)]
 pub(crate) struct Line<'a>(pub(crate) &'a [u8]);
 
 impl Display for Line<'_> {
     fn fmt<W: fmt::Write>(&self, f: &mut fmt::Formatter<W>) -> fmt::Result {
-        if self.0.iter().all(|c| readable(*c)) {
-            write!(f, " \"{}\"", self.0.escape_ascii())
-        } else {
-            List(self.0).fmt(f)
+        if !self.0.iter().all(|c| readable(*c)) {
+            return List(self.0).fmt(f);
         }
+        write!(f, " \"")?;
+        for c in self.0 {
+            match *c {
+                b'\n' => write!(f, "\\n")?,
+                c => write!(f, "{}", char::from(c))?,
+            }
+        }
+        write!(f, "\"")
     }
 }
 

@@ -59,7 +59,9 @@ fn put_word_digits(x: u32, part: &mut [u8])
     requires { length part.old ≡ 8 }
     ensures { part.new ≡ hex (word_bytes x) }
 {
-    put_bytes_digits(&x.to_le_bytes(), part);
+    let mut four = [0; 4];
+    bytes::put_word(x, &mut four);
+    put_bytes_digits(&four, part);
 }
 
 // Word after word, by places for the same reason. (One function for this, the bytes and plain's `put_words` would have a

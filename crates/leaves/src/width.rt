@@ -1,9 +1,9 @@
-// Document 01, "Numbers we allow": b, the width of an element, once it is known to be 4 to 14 bits. `rounding` has modulus and
-// indicator of any b, which are public and stay.
+// Document 01, "Numbers we allow": b, the width of an element, once it is known to be 4 to 14 bits. Modulus and indicator of any b
+// are `rounding`'s.
 ghost use Rattle.std.specs.Prelude.{◌≡◌, ◌≤◌, ◌-◌, ◌^◌, true, false, MatchOption};
 ghost use Rattle.laws.specs.Refusals.{width_bad};
 
-use super::limits;
+use super::{limits, rounding};
 
 #[derive(Clone, Copy, Debug, PartialEq, Eq)]
 pub struct Width {
@@ -24,10 +24,11 @@ impl Width {
     }
 
     // 2^b.
+    #[tactic(auto, unfolding(crate::specs::Rounding::modulus_of))]
     pub fn modulus(self) -> u32
         ensures { result ≡ 2 ^ self.bits }
     {
-        1 << self.bits
+        rounding::modulus(self.bits)
     }
 
     // 2^b - 1, the greatest element.
@@ -38,9 +39,10 @@ impl Width {
     }
 
     // Δ.
+    #[tactic(auto, unfolding(crate::specs::Rounding::indicator_of))]
     pub fn delta(self) -> u32
         ensures { result ≡ 2 ^ (32 - self.bits) }
     {
-        1 << (32 - self.bits)
+        rounding::calculate_query_indicator(self.bits)
     }
 }

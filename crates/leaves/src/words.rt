@@ -1,5 +1,5 @@
-// Words and bytes: lent ones wiped or copied, and the product of two words. The library has these today (but for `copy`, which
-// leaves an output that is too short as it is); what is public stays, under its own contract.
+// Words and bytes: lent ones wiped or copied, and the product of two words. The crates above go through these, so that each has
+// its contract, and its wrong programs, in one place.
 ghost use Rattle.std.specs.Prelude.{◌≡◌};
 ghost use Rattle.leaves.specs.Words.{zeroed, copied, times_word};
 
@@ -10,12 +10,15 @@ pub fn zero(words: &mut [u32])
     words.fill(0);
 }
 
-// Writes `from` into the start of `out`. Where it is longer than that, `out` stays as it is.
+// Writes `from` into the start of `out`. Where it is longer than that, `out` stays as it is. (By places: with the library's
+// `copy_from_slice` the archive would need memmove, and include/ladletwig.h says that it calls nothing but memcpy and memset.)
 pub fn copy<T: Copy>(from: &[T], out: &mut [T])
     ensures { out.new ≡ copied from.now out.old }
 {
     if from.len() <= out.len() {
-        out[..from.len()].copy_from_slice(from);
+        for (i, x) in from.iter().enumerate() {
+            out[i] = *x;
+        }
     }
 }
 

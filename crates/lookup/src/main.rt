@@ -8,6 +8,7 @@ mod store;
 mod till;
 
 use fault::Fault;
+use std::io;
 use till::{Open, Till};
 
 // Ben's discount; and the same line again.
@@ -42,13 +43,22 @@ fn wrong(rt: &impl Print, till: &mut Till) -> Result<(), Fault> {
     Ok(())
 }
 
-fn main(rt: HostRuntime) -> Result<(), Fault> {
+fn run(rt: &impl Print) -> Result<(), Fault> {
     println!(rt;
         "The host's store: Ada 4.20, Ben 0.75, Cy 12.00, written as rows, placed and packed."
     )?;
-    host::show(&rt)?;
+    host::show(rt)?;
     let mut till = Till::new()?;
-    once(&rt, &mut till)?;
-    again(&rt, &mut till)?;
-    wrong(&rt, &mut till)
+    once(rt, &mut till)?;
+    again(rt, &mut till)?;
+    wrong(rt, &mut till)
+}
+
+// A text that can't be written ends it with just that error. (A refusal, which can't come up on what is fixed here, is printed.)
+fn main(rt: HostRuntime) -> io::Result<()> {
+    match run(&rt) {
+        Err(Fault::Io(e)) => Err(e),
+        Err(Fault::Refused(reason)) => println!(rt; "  refused   {reason}"),
+        Ok(()) => Ok(()),
+    }
 }

@@ -7,7 +7,7 @@ ghost use Rattle.plain.specs.Matrix.{cell, matrix_bad, times, transposed, times_
 ghost use Rattle.answers.specs.Matrix.{fitting_number, fitting_refusal};
 
 pub use answers::matrix::FittingRefusal;
-use leaves::limits;
+use leaves::{limits, words};
 
 // Is a dimension outside 1 to 4,096?
 pub(crate) fn sides_bad(rows: usize, columns: usize) -> bool
@@ -75,7 +75,7 @@ fn cell_sum(row: &[u32], right: &Matrix, j: usize) -> u32
 {
     let mut acc: u32 = 0;
     for (t, x) in row.iter().enumerate() {
-        acc = acc.wrapping_add(x.wrapping_mul(right.at(t, j)));
+        acc = acc.wrapping_add(words::wrapping_mul(*x, right.at(t, j)));
     }
     acc
 }

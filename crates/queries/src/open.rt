@@ -16,7 +16,7 @@ use arith::sampler;
 pub use client_answers::open::OpeningRefusal;
 use leaves::interval::Interval;
 use leaves::width::Width;
-use leaves::{limits, positions as places};
+use leaves::{limits, positions as places, words};
 use pending::table::{NUMBERS_END, Slot, Table};
 use plain::matrix;
 use tickets::slots;
@@ -222,7 +222,7 @@ impl Opening<'_> {
 
     // The query is in the error's place and marked. Both work buffers end as zeros. (Its slices, and those of `make_query`, are
     // the entry's.)
-    #[tactic(auto, unfolding(laws::specs::Lists::laid))]
+    #[tactic(auto, using(leaves::proofs::words::Copied::copied_whole))]
     fn store(
         &self,
         slab: &mut [u32],
@@ -239,9 +239,9 @@ impl Opening<'_> {
         ensures query_after { query.new ≡ laid error.old query.old }
     {
         self.put_secret(secret, hint, slab);
-        query[..error.len()].copy_from_slice(error);
-        secret.fill(0);
-        error.fill(0);
+        words::copy(error, query);
+        words::zero(secret);
+        words::zero(error);
         slots::take(self.table, self.digest)
     }
 
@@ -262,8 +262,8 @@ impl Opening<'_> {
         self.draw(secret, error);
         add_product(secret, matrix, error);
         if self.wraps_at(error) {
-            secret.fill(0);
-            error.fill(0);
+            words::zero(secret);
+            words::zero(error);
             return Opened {
                 answer: Err(OpeningRefusal::Wraps(self.read)),
                 table: self.table,

@@ -14,7 +14,7 @@ use arith::codec;
 use arith::codec::DecodingRefusal;
 pub use client_answers::reply::ReplyingRefusal;
 use leaves::width::Width;
-use leaves::{limits, rounding};
+use leaves::{limits, rounding, words};
 use pending::table::{Slot, Table};
 use tickets::slots;
 
@@ -145,7 +145,7 @@ impl<'a> Waiting<'a> {
         if self.table.differs_at(self.slot.index, digest) {
             return Err(ReplyingRefusal::Digest);
         }
-        value[..n].copy_from_slice(&found[..n]);
+        words::copy(&found[..n], value);
         Ok(n)
     }
 

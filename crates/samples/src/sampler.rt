@@ -24,18 +24,23 @@ fn value_of(interval: Interval, x: u32) -> u32
 }
 
 // The shortest start of the words that holds enough, or 3: it ends at the accepted word that is the last wanted. Nothing is
-// written before this is known.
+// written before this is known. (Counted, so that no word is a branch: a chain of `filter` and `nth` took up to twice as long.)
 fn count_read(interval: Interval, wanted: usize, words: &[u32]) -> Result<usize, SamplingRefusal>
     ensures number { sampling_number result ≡ first (too_few interval.value wanted words.now ⇒ 3 ∷ []) }
     ensures read { sampling_read result ≡ after (sampling_number result) (shortest interval.value wanted words.now) 0 }
 {
-    if wanted == 0 {
-        return Ok(0);
-    }
     let greatest = 3 * interval.value;
-    let mut accepted = words.iter().enumerate().filter(|(_, x)| **x <= greatest);
-    let (last, _) = accepted.nth(wanted - 1).ok_or(SamplingRefusal::Short)?;
-    Ok(last + 1)
+    let mut left = wanted;
+    for (seen, x) in words.iter().enumerate() {
+        if left == 0 {
+            return Ok(seen);
+        }
+        left -= (*x <= greatest) as usize;
+    }
+    if left == 0 {
+        return Ok(words.len());
+    }
+    Err(SamplingRefusal::Short)
 }
 
 // The whole answer, known before anything is written: 2, 4, 3 in this order, or the count of words to read.

@@ -4,7 +4,7 @@ ghost use Rattle.std.specs.Prelude.{◌≡◌, ◌*◌, ◌<◌, true, false, le
 ghost use Rattle.laws.specs.Lists.{splice};
 ghost use Rattle.pending.specs.Table.{slot_of, taken, takable, take_after, closed, wiped, closable, close_after, wipe_after};
 
-use leaves::limits;
+use leaves::{limits, words};
 use pending::table::{DIGEST_BYTES, NUMBERS_END, Slot, Table};
 
 // The last number that a ticket may have.
@@ -59,7 +59,7 @@ fn close_slot(mut table: Table, slab: &mut [u32], slot: Slot) -> Table
 {
     // (Where a slot's words lie, as in queries' `put_secret`.)
     let start = slot.index * table.columns;
-    slab[start..start + table.columns].fill(0);
+    words::zero(&mut slab[start..start + table.columns]);
     table.numbers[slot.index] = 0;
     put_digest(&mut table.digests, slot, [0; 32]);
     table

@@ -1,9 +1,8 @@
--- What a start of the words gives, and one word more: the values of the accepted ones. Then the accepted words by their places.
-use Rattle.std.proofs.Common.{◌≡◌, ℕ, zero, suc, ◌+◌, ◌<◌, ◌≤◌, Bool, true, false, cond, List, [], ◌∷◌, ◌++◌, length, get_or, take, drop, map, refl, sym, ap, ◌∙◌, arith, length-append}
+-- What a start of the words gives, and one word more: the values of the accepted ones.
+use Rattle.std.proofs.Common.{◌≡◌, ℕ, ◌+◌, ◌<◌, ◌≤◌, Bool, true, false, cond, List, [], ◌∷◌, ◌++◌, length, get_or, take, drop, map, refl, sym, ap, ◌∙◌, arith, length-append}
 use Rattle.std.proofs.lemmas.List.{length-map, map-append}
 use lib.ListN.{take-append-drop}
-use Rattle.std.specs.Prelude.{Option, Some, None, MatchOption}
-use Rattle.std.specs.List.{filter, enumerate_from, slice_get}
+use Rattle.std.specs.List.{filter}
 use Rattle.std.proofs.lemmas.List.Elements.{filter-append}
 use Rattle.std.proofs.lemmas.List.Filters.{length-filter_more}
 use Rattle.samples.specs.Sampler.{accepted, ternary, given}
@@ -38,40 +37,3 @@ module _ (interval : ℕ) where
       → length (given interval (take (r + 1) words))
       ≡ length (given interval (take r words)) + cond (accepted interval (get_or words r 0)) 1 0
   length-given_more r words h = simp length-given (length-filter_more (accepted interval) words r 0 h)
-
-  -- the accepted words, each with its place, which is counted from k on
-  abbrev pub placed : ℕ → List ℕ → List (ℕ × ℕ)
-  placed k words = filter (λ q. accepted interval q.1) (enumerate_from k words)
-
-  -- the one that follows the first n of them: the start that it ends is the first that holds more than n
-  abbrev pub Ends : ℕ → ℕ → List ℕ → Option (ℕ × ℕ) → Type 0
-  Ends k n words r =
-      MatchOption r (length (given interval words) ≤ n)
-      (λ q. (j : ℕ)
-      × (q.0 ≡ k + j)
-      × (j < length words)
-      × (length (given interval (take j words)) ≡ n)
-      × (length (given interval (take (suc j) words)) ≡ suc n))
-
-  pub placed_ends : (words : List ℕ) (k n : ℕ) → Ends k n words (slice_get (placed k words) n)
-  unfolding given
-  placed_ends [] k n = omega arith
-  placed_ends (x ∷ xs) k n = by_test (accepted interval x) refl n (placed_ends xs (k + 1))
-    where
-      -- a word before them that gives c values
-      later : (c m i : ℕ) → i ≡ c + m → ((zs : List ℕ) → length (given interval (x ∷ zs)) ≡ c + length (given interval zs))
-          → (r : Option (ℕ × ℕ)) → Ends (k + 1) m xs r → Ends k i (x ∷ xs) r
-      later c m i l g None h = omega (arith, g xs, h)
-      later c m i l g (Some q) h = (
-        suc h.0,
-        omega (arith, h.1),
-        omega (arith, h.2),
-        omega (arith, g (take h.0 xs), h.3),
-        omega (arith, g (take (suc h.0) xs), h.4),
-      )
-
-      by_test : (t : Bool) → accepted interval x ≡ t → (m : ℕ) → ((i : ℕ) → Ends (k + 1) i xs (slice_get (placed (k + 1) xs) i))
-          → Ends k m (x ∷ xs) (slice_get (cond t ((k, x) ∷ placed (k + 1) xs) (placed (k + 1) xs)) m)
-      by_test true e zero h = (0, omega arith, omega arith, refl, rw e refl)
-      by_test true e (suc m) h = later 1 m (suc m) (omega arith) (λ zs. rw e (omega arith)) _ (h m)
-      by_test false e m h = later 0 m m (omega arith) (λ zs. rw e (omega arith)) _ (h m)

@@ -1,4 +1,4 @@
-use Rattle.std.proofs.Common.{◌≡◌, ℕ, ◌*◌, ◌%◌, ◌^◌, length, get_or, refl, sym, ap, add-one, zero-mul, arith}
+use Rattle.std.proofs.Common.{◌≡◌, ◌∙◌, ℕ, ◌*◌, ◌%◌, ◌^◌, length, get_or, refl, sym, ap, add-one, zero-mul, arith}
 use Rattle.laws.specs.Sums.{sum}
 use Rattle.laws.proofs.Sums.{cong_wrap, wrap_add}
 use Rattle.arith.specs.Packing.{slot}
@@ -10,8 +10,8 @@ pub loop-x-init : goal.loop-x-init
 unfolding sum
 loop-x-init c = (sym (zero-mul c.slot_bits-slot.result), refl)
 
-pub overflow_shr-acc : goal.overflow_shr-acc
-overflow_shr-acc c = shift_lt c.args.width.bits c.slot_bits-slot.ensures c.requires c.loop-x.invariant.0 c.loop-x-test.true
+pub overflow_shr-word : goal.overflow_shr-word
+overflow_shr-word c = shift_lt c.args.width.bits c.slot_bits-slot.ensures c.requires c.loop-x.invariant.0 c.loop-x-test.true
 
 pub overflow_add-shift : goal.overflow_add-shift
 overflow_add-shift c =
@@ -30,7 +30,7 @@ loop-x-preserved c =
       rw (add-one l.x-index)
           (wrap_add (sum l.x-index (λ i. get_or a.part.now i 0 * slot b w a.word i)) l.acc _
           l.invariant.1
-          (cong_wrap (x * slot b w a.word l.x-index) (ap (λ (y : ℕ). (x * y) % 2 ^ 32) slot_read))
+          (cong_wrap (x * slot b w a.word l.x-index) (c.wrapping_mul-acc.ensures ∙ ap (λ (y : ℕ). (x * y) % 2 ^ 32) slot_read))
           refl),
     )
 

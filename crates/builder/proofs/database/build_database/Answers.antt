@@ -2,17 +2,16 @@
 use Rattle.std.proofs.Common.{◌≡◌, ◌*◌, ◌++◌, ℕ, List, length, drop, sym, ap, ◌∙◌, rules, length-take-le}
 use Rattle.laws.specs.Lists.{laid}
 use Rattle.laws.proofs.Refusals.{written}
-use Rattle.builder.specs.Database.{Proposed, proposed, build_number, build_after, database, keys_of}
+use Rattle.builder.specs.Database.{Proposed, proposed, build_number, database, keys_of}
 use Rattle.builder.proofs.database.Sizes.{Sized, sized}
 use Rattle.builder.proofs.database.build_database.Goals as goal
 use Rattle.builder.proofs.database.build_database.Goals.{Else-keys_bad}
 
-built : (p : Proposed) (words : List ℕ) → build_number p ≡ 0 → length words ≡ p.r * p.columns
+built : (p : Proposed) (words : List ℕ) → length words ≡ p.r * p.columns
     → words ≡ database p.b p.r p.columns (keys_of p) p.count
-    → words ++ drop (p.r * p.columns) p.held ≡ build_after p
+    → words ++ drop (p.r * p.columns) p.held ≡ laid (database p.b p.r p.columns (keys_of p) p.count) p.held
 unfolding laid
-built p words z h e =
-    ap (λ n. words ++ drop n p.held) (sym h) ∙ ap (λ xs. laid xs p.held) e ∙ written _ _ _ z
+built p words h e = ap (λ n. words ++ drop n p.held) (sym h) ∙ ap (λ xs. laid xs p.held) e
 
 shape : (c : Else-keys_bad)
     → let a = c.args in
@@ -47,4 +46,5 @@ returns-clause-database_after c =
     let width : c.in_ok-width.width.bits ≡ a.b = search rules in
     let size : length c.place_keys.new.words ≡ a.r * a.columns =
     c.place_keys.auto.words ∙ length-take-le _ _ (shape (goal.at.returns-clause-database_after c).Else-keys_bad).roomy in
-    built p c.place_keys.new.words (search rules) size (rw (← width) c.place_keys.ensures)
+    let none : build_number p ≡ 0 = search rules in
+    built p c.place_keys.new.words size (rw (← width) c.place_keys.ensures) ∙ written _ _ _ none

@@ -13,7 +13,8 @@ unfolding sum
 loop-t-preserved c =
     let y = c.args.right.now in
     let l = c.loop-t in
-    rw (c.at.ensures, add-one l.t)
+    let x = get_or c.args.row.now l.t 0 in
+    rw (add-one l.t)
     (wrap_add (sum l.t (λ i. get_or c.args.row.now i 0 * cell y.columns y.words.now i c.args.j)) l.acc _ l.invariant
-    (cong_wrap (get_or c.args.row.now l.t 0 * cell y.columns y.words.now l.t c.args.j) refl)
+    (cong_wrap (x * cell y.columns y.words.now l.t c.args.j) (rw c.at.ensures at c.wrapping_mul-acc.ensures))
     refl)

@@ -22,4 +22,4 @@ wiped_is columns s slab ys h e =
 pub returns-clause-slab_after : goal.returns-clause-slab_after
 returns-clause-slab_after c =
     let a = c.args in
-    wiped_is a.table.columns a.slot.index a.slab.now _ (omega (arith, c.requires, room a.slot.index 64 a.table.columns a.slot.within)) (c.fill.ensures.after (λ y e. e))
+    wiped_is a.table.columns a.slot.index a.slab.now _ (omega (arith, c.requires, room a.slot.index 64 a.table.columns a.slot.within)) c.zero.ensures

@@ -104,7 +104,7 @@ returns-then-wraps_at c =
     let w = (goal.at.returns-then-wraps_at c).After-wraps_at in
     let r = wrapped (asks k) (none k) (wraps_is w ∙ c.if-wraps_at.true) in record {
       result_value = said_same refl refl c.args.self.now.counted refl ∙ sym r.0;
-      query_after = left_same refl (c.fill.ensures.after (λ y e. e) ∙ secret_zeros p) (c.fill-then-wraps_at.ensures.after (λ y e. e) ∙ noise_zeros p) refl ∙ sym r.1;
+      query_after = left_same refl (c.zero.ensures ∙ secret_zeros p) (c.zero-then-wraps_at.ensures ∙ noise_zeros p) refl ∙ sym r.1;
     }
 
 pub mark-requires-clause-query_len : goal.mark-requires-clause-query_len

@@ -1,5 +1,5 @@
 -- The reader's refusals, then the digest, and then the value.
-use Rattle.std.proofs.Common.{◌≡◌, ℕ, ◌≤◌, cond, List, Result, Ok, Err, length, take, sym, refl, ap, ap₂, ◌++◌, drop, ◌∙◌, arith, length-take}
+use Rattle.std.proofs.Common.{◌≡◌, ℕ, ◌≤◌, cond, List, Result, Ok, Err, length, take, sym, refl, ap, ◌∙◌, arith, length-take}
 use Rattle.std.specs.Result.{MatchResult, IsErrAnd}
 use Rattle.std.proofs.lemmas.Result.{err_from_is_err_and}
 use Rattle.laws.specs.Lists.{laid}
@@ -10,6 +10,7 @@ use Rattle.answers.specs.Codec.{decoding_refusal, decoding_refuses, decoding_num
 use Rattle.client_answers.specs.declared.reply.ReplyingRefusal.{ReplyingRefusal}
 use Rattle.client_answers.specs.Reply.{replying_refusal, replying_refuses, replying_number, replying_length}
 use Rattle.leaves.specs.Digests.{differs}
+use Rattle.leaves.proofs.words.Copied.{copied_whole}
 use Rattle.pending.specs.Table.{digest_at}
 use Rattle.pending.proofs.table.Answers.{compared}
 use Rattle.replies.specs.Reply.{digest_bad, row_number_of}
@@ -72,9 +73,6 @@ module _ (c : In_ok-n) where
   roomy : n ≤ length c.args.value.now
   roomy = omega (arith, long, value_fits _ _ (r k), c.requires.1)
 
-  room_length : n ≡ length (take n c.args.value.now)
-  room_length = omega (arith, roomy, length-take n c.args.value.now)
-
 -- the two digests that are compared
 module _ (c : After-differs_at) where
   abbrev took : In_ok-n
@@ -113,28 +111,16 @@ returns-then-differs_at-clause-number c =
 pub slice_bounds-found-end : goal.slice_bounds-found-end
 slice_bounds-found-end c = in_found (goal.at.slice_bounds-found-end c).In_ok-n
 
-pub slice_bounds-copy_from_slice-end : goal.slice_bounds-copy_from_slice-end
-slice_bounds-copy_from_slice-end c = roomy (goal.at.slice_bounds-copy_from_slice-end c).In_ok-n
-
-pub slice_bounds-copy_from_slice-end-2 : goal.slice_bounds-copy_from_slice-end-2
-slice_bounds-copy_from_slice-end-2 c = room_length (goal.at.slice_bounds-copy_from_slice-end-2 c).In_ok-n
-
-pub slice_bounds-copy_from_slice-end-3 : goal.slice_bounds-copy_from_slice-end-3
-slice_bounds-copy_from_slice-end-3 c = found_length (goal.at.slice_bounds-copy_from_slice-end-3 c).In_ok-n
-
-pub copy_from_slice-requires : goal.copy_from_slice-requires
-copy_from_slice-requires c =
-    let e = (goal.at.copy_from_slice-requires c).In_ok-n in
-    sym (room_length e) ∙ found_length e
+pub slice_bounds-copy-end : goal.slice_bounds-copy-end
+slice_bounds-copy-end c = found_length (goal.at.slice_bounds-copy-end c).In_ok-n
 
 pub returns : goal.returns
-unfolding laid
 returns c =
     let e = (goal.at.returns c).In_ok-n in
-    let v = c.copy_from_slice.ensures.after ∙ found_value e in
-    let l = found_length e ∙ ap length (found_value e) in
     record {
       number = sym (number_is (goal.at.returns c).After-differs_at ∙ ap (λ t. cond t 14 0) c.if-differs_at.false);
       length = long e;
-      value_after = ap₂ (λ (x : List ℕ) (m : ℕ). x ++ drop m c.args.value.now) v l;
+      value_after = c.copy.ensures
+          ∙ copied_whole _ _ (omega (arith, found_length e, roomy e))
+          ∙ ap (λ (xs : List ℕ). laid xs c.args.value.now) (found_value e);
     }
